@@ -13,9 +13,9 @@ NOBODY = 65534
 ATTACHMENTS = "mail_attachment_fs = sis posix\nmail_attachment_hash = %{sha1}\nmail_attachment_min_size = 128k\n"
 
 
-def mdbox_of(folder, messages, attachments=False):
+def mdbox_of(folder, messages, attachments=False, below=""):
     """The words that start `doveadm` on a Dovecot mdbox of these messages, which is made in the folder, and which stores attachments
-    once if that is wanted. None without it."""
+    once if that is wanted; in INBOX, or in a mailbox INBOX below another. None without it."""
     if not shutil.which("doveadm"):
         print("doveadm isn't installed")
         return None
@@ -33,7 +33,7 @@ def mdbox_of(folder, messages, attachments=False):
     subprocess.run(["chown", "-R", f"{user}:{group}", folder], check=True)
     os.environ.update(USER="bench", HOME=folder)
     start = ["doveadm", "-c", config]
-    imported = subprocess.run([*start, "import", f"maildir:{folder}/maildir", "", "all"], check=False)
+    imported = subprocess.run([*start, "import", f"maildir:{folder}/maildir", below, "all"], check=False)
     if imported.returncode != 0:
         print(f"doveadm import: status {imported.returncode}")
         return None

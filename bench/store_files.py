@@ -83,10 +83,10 @@ def write_mail_files(folder, messages):
     out.close()
 
 
-def write_store(folder, count, half=False, last=None, second=False, least=LEAST_SIZE, largest=LARGEST_SIZE):
+def write_store(folder, count, half=False, last=None, second=False, least=LEAST_SIZE, largest=LARGEST_SIZE, beside=False):
     """Writes a store of so many messages in INBOX, beside which there is an empty mailbox, EMPTY, into a folder. If only half
     of them are to stay, the others are expunged in any order; or every second one is; if the last one's octets are given, it has
-    these. Answers all messages, and those that stay."""
+    these. They may be in the mailbox beside INBOX, which is BIG then, and INBOX empty. Answers all messages, and those that stay."""
     sizes = random.Random(count)
     messages = [Message(number, sizes, least, largest) for number in range(1, count + 1)]
     if last is not None:
@@ -96,15 +96,16 @@ def write_store(folder, count, half=False, last=None, second=False, least=LEAST_
     os.mkdir(storage)
     os.mkdir(mailboxes)
     write_mail_files(storage, messages)
-    boxes = [b"B" + four(1) + four(1) + b"\x05INBOX", b"B" + four(2) + four(1) + b"\x05EMPTY"]
+    boxes = [b"B" + four(1) + four(1) + b"\x05INBOX", b"B" + four(2) + four(1) + (b"\x03BIG" if beside else b"\x05EMPTY")]
     stored = [one.stored_entry() for one in messages]
     lowered = [one.lowered_entry() for one in expunged]
     added = [one.added_entry() for one in messages]
     removed = [one.removed_entry() for one in expunged]
     write_log(os.path.join(storage, "root.log"), b"R", 0, 0, [b"M" + four(1)])
     write_log(os.path.join(storage, "map.1.log"), b"M", 0, 1, boxes + stored + lowered)
-    write_log(os.path.join(mailboxes, "b.1.1.log"), b"B", 1, 1, added + removed)
-    write_log(os.path.join(mailboxes, "b.2.1.log"), b"B", 2, 1, [])
+    logs = [[], added + removed] if beside else [added + removed, []]
+    for number, log in enumerate(logs, 1):
+        write_log(os.path.join(mailboxes, f"b.{number}.1.log"), b"B", number, 1, log)
     gone = {one.number for one in expunged}
     return messages, [one for one in messages if one.number not in gone]
 

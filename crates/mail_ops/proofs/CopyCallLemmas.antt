@@ -101,7 +101,15 @@ raise_fits history store name uid number row s at few =
 some_row : (a b : LogRow) → Some a ≡ Some b → a ≡ b
 some_row a b e = cc e
 
--- a number that a name names was given
+-- a number that a name names is one
+pub source_some : {D : Type 0} → (history : Option History) (store : StoreValue D) (name : List ℕ) (number : ℕ) → IsStore history store → number_named store.map name ≡ Some number → 1 ≤ number
+source_some history store name number s is =
+    let b = some_there (λ (box : MapBox). box.number) (box_named store.map name) number (sym is) in
+    let low = (All-contains (IsSoundMapBox store.map.highest.mailbox) store.map.boxes b.0 (store_is_sound history store s).boxes (found_one (λ (box : MapBox). bytes_eq box.name name) store.map.boxes b.0 b.1).0).number.low in
+    let same : number ≡ b.0.number = b.2 in
+    omega (arith, low, same)
+
+-- and was given
 number_given : (m : MapMeaning) (name : List ℕ) (number : ℕ) → IsSoundMap m → number_named m name ≡ Some number → number ≤ m.highest.mailbox
 number_given m name number s is =
     let b = some_there (λ (box : MapBox). box.number) (box_named m name) number (sym is) in
@@ -120,8 +128,8 @@ keeps_row history store name uid number held row s at holds = record {
   same = subst (λ (o : Option BoxMeaning). IfSome o (λ m. (r : LogRow) → row_at m uid ≡ Some r → r.map_uid ≡ held)) (sym at.box.numbered) (λ other there. ap (λ (r : LogRow). r.map_uid) (some_row other row (sym there ∙ at.listed)) ∙ sym holds);
 }
 
-pub held_row : {D : Type 0} → (store : StoreValue D) (name : List ℕ) (uid number held : ℕ) (row : LogRow) → IfSome (number_named store.map name) (λ source. KeepsUid source uid held store) → IsRowOf name uid store number row → held ≡ row.map_uid
-held_row store name uid number held row keeps at =
-    let k : KeepsUid number uid held store = subst (λ (o : Option ℕ). IfSome o (λ n. KeepsUid n uid held store)) at.box.number_is keeps in
+pub held_row : {D : Type 0} → (store : StoreValue D) (name : List ℕ) (uid number source held : ℕ) (row : LogRow) → KeepsUid source uid held store → (at : IsRowOf name uid store number row) → number ≡ source → held ≡ row.map_uid
+held_row store name uid number source held row keeps at from =
+    let k : KeepsUid number uid held store = subst (λ (n : ℕ). KeepsUid n uid held store) (sym from) keeps in
     let same : (r : LogRow) → row_at at.m uid ≡ Some r → r.map_uid ≡ held = subst (λ (o : Option BoxMeaning). IfSome o (λ m. (r : LogRow) → row_at m uid ≡ Some r → r.map_uid ≡ held)) at.box.numbered k.same in
     sym (same row at.listed)

@@ -1,7 +1,7 @@
 -- The first event of a copy or a move, by the clause of a step: the count is raised, or it is refused.
-use Rattle.mail_ops.proofs.Common.{MapFits, nat_tests, ◌≡◌, ◌≤◌, ◌<◌, ◌+◌, ℕ, Bool, true, false, List, [], ◌∷◌, Option, Some, None, refl, sym, ◌∙◌, ap, subst, arith, inl, inr, ◌⊎◌, flat_map, nat_le, length, slice_get, is_some, if◌then◌else◌, option_map_or, option_or, common_steps, History, Faults}
-use Rattle.mail_ops.proofs.Common.{told_calls, BoxNo, MapUid, Uid, Did, Refusal, Reply, Request, Half, ListedMessage, Lists, LogRow, BoxMeaning, row_at, MapMeaning, record_of, map_applied, no_numbers, ShowLists, First, RunEvent, event_of, Run, and_then, own_events, map_of, first_refusal}
-use Rattle.mail_ops.proofs.Common.{refused_where, part_checks, is_step, halves_of, Around, last_refusal, next_part, due_at, IsStore, StoreValue, indexes_of, list_named, one_due, HasComeTo, HasNotBegun, Steps, MapFell, IsHolding, copy_refusal, room_refusal, raising_of, RaisesRow, IsRaiseRefusal}
+use Rattle.mail_ops.proofs.Common.{MapFits, nat_tests, ◌≡◌, ◌≤◌, ◌<◌, ◌+◌, ℕ, Bool, true, false, List, [], ◌∷◌, Option, Some, None, refl, sym, ◌∙◌, ap, subst, arith, inl, inr, ◌⊎◌, nat_le, length, slice_get, is_some, if◌then◌else◌, option_map_or, option_or, common_steps, History, Faults}
+use Rattle.mail_ops.proofs.Common.{told_calls, BoxNo, MapUid, Uid, Did, Refusal, Reply, Request, Half, ListedMessage, Lists, LogRow, BoxMeaning, row_at, MapMeaning, record_of, map_applied, no_numbers, ShowLists, First, RunEvent, event_of, Run, and_then, map_of, first_refusal}
+use Rattle.mail_ops.proofs.Common.{refused_where, part_checks, is_step, halves_of, Around, due_at, IsStore, StoreValue, indexes_of, list_named, one_due, HasComeTo, Steps, MapFell, IsHolding, copy_refusal, room_refusal, raising_of, RaisesRow, IsRaiseRefusal}
 use Rattle.mail_ops.proofs.Common.{seen_of, CanRefuse, did_check, did_fall, did_forget, did_own, did_stop, ends_well, no_reply, own_event, refuses, replied_so, stands_by, stays_left, stays_itself, first_reply, never_more, nothing}
 use Rattle.mdbox_base.specs.declared.entries.MapEntry.TheVariants as map_entry
 use Rattle.mdbox_base.specs.declared.progress.Did.TheVariants as did
@@ -11,9 +11,11 @@ use Rattle.model_meaning.specs.MapMeaning.{count_of}
 use Rattle.list_machine.specs.Run.{uid_added}
 use Rattle.list_machine.specs.Machine.{MayBeCopied}
 use Rattle.mail_ops.specs.Copying.{CopyPlace}
-use Rattle.mail_ops.proofs.CopyPartLemmas.{IsCopying, first_goes_on}
+use Rattle.mail_ops.specs.CopyStages.{IsToRaise}
+use Rattle.mail_ops.proofs.CopyCallLemmas.{source_some}
+use Rattle.mail_ops.proofs.CopyPartLemmas.{IsCopying, first_goes_on, raise_next}
 use Rattle.mail_ops.proofs.CopyPlaceLemmas.{place_checked}
-use Rattle.mail_ops.proofs.LastEventLemmas.{copied_new, ends_in, held_new, source_first, unrefused_more}
+use Rattle.mail_ops.proofs.LastEventLemmas.{copied_new, ends_in, held_new, source_new, unrefused_more}
 use Rattle.mail_ops.proofs.LoweringLemmas.{comes_with, shows_still, leads_still, one_fits}
 use Rattle.mail_ops.proofs.MessageLemmas.{shown_row, shown_guid, record_of_row}
 use Rattle.mail_ops.proofs.RemovalLemmas.{took_tells, map_fell_stays}
@@ -23,8 +25,8 @@ use Rattle.mail_ops.proofs.ToldLemmas.{memory_runs, step_runs}
 abbrev pub CopyingClause : {D : Type 0} → Request → (Run → ℕ → List Reply → Type 0) → (Run → ℕ → List Reply → Type 0) → StoreValue D → StoreValue D → Option History → Option History → Faults → Faults → Did → Option Reply → Type 0
 CopyingClause q Stood Stands old new before after began faulted how ended = (around behind : Around) (pins : ℕ → ℕ) → Steps Stood Stands around behind q (seen_of pins old before began) (seen_of pins new after faulted) how ended
 
-pub raise_refuses : (around : Around) (run : Run) (place : ℕ) (q : Request) (name : List ℕ) (uid : Uid) (target : List ℕ) (half : Half) (why : Refusal) → IsCopying q name uid target half → own_events place run ≡ [] → CanRefuse around run place q First why (Some (reply.Refused why)) no_numbers
-raise_refuses around run place q name uid target half why c own = refuses around run place q First why no_numbers (λ lane calls. c.finds around _) (λ lane calls. c.found around run _ First) (ap (λ (es : List RunEvent). next_part around run q es) own) (c.refused_first why)
+pub raise_refuses : (around : Around) (run : Run) (place : ℕ) (said : List Reply) (q : Request) (name : List ℕ) (uid : Uid) (target : List ℕ) (half : Half) (why : Refusal) → IsCopying q name uid target half → IsToRaise run place said → CanRefuse around run place q First why (Some (reply.Refused why)) no_numbers
+raise_refuses around run place said q name uid target half why c stood = refuses around run place q First why no_numbers (λ lane calls. c.finds around _) (λ lane calls. c.found around run _ First) (raise_next around run q name uid target half place said c stood) (c.refused_first why)
 
 -- ---- what the first event looks at
 
@@ -97,36 +99,36 @@ raise_steps name uid target store why (inl e) = copy_steps name uid target store
 raise_steps name uid target store why (inr many) = ap is_step many.1
 
 pub raise_refused : {D : Type 0} → (q : Request) (name : List ℕ) (uid : Uid) (target : List ℕ) (half : Half) (Stands : Run → ℕ → List Reply → Type 0) (store : StoreValue D) (history : Option History) (faults : Faults) (why : Refusal) → IsCopying q name uid target half → store.stopped ≡ false → IsRaiseRefusal name uid.0 target store why
-    → CopyingClause q HasNotBegun Stands store store history history faults faults (did.Step half) (Some (reply.Refused why))
+    → CopyingClause q IsToRaise Stands store store history history faults faults (did.Step half) (Some (reply.Refused why))
 raise_refused q name uid target half Stands store history faults why c runs refuses = λ around behind pins run lane place said lists come shows stood.
     let step = raise_steps name uid.0 target store why refuses in (
-      (did_check around behind run lane place said q First lists (seen_of pins store history faults) (seen_of pins store history faults) why (Some (reply.Refused why)) half (raise_refuses around run place q name uid target half why c stood.0) (stays_left _ _ _ _ _ _ _ _ _ come (stays_itself (seen_of pins store history faults)) shows) runs runs (nothing lists (seen_of pins store history faults)) refl step c.half_first (ap (λ (s : List Reply). slice_get (halves_of q) (length s)) stood.1 ∙ (c.halves ∙ ap Some (sym c.half_first))) (raise_checked pins history faults run q name uid target half store why lists c refuses shows.1 come)
-          (first_reply q said (Some (reply.Refused why)) (reply.Refused why) stood.1 (c.replied why step))).so,
+      (did_check around behind run lane place said q First lists (seen_of pins store history faults) (seen_of pins store history faults) why (Some (reply.Refused why)) half (raise_refuses around run place said q name uid target half why c stood) (stays_left _ _ _ _ _ _ _ _ _ come (stays_itself (seen_of pins store history faults)) shows) runs runs (nothing lists (seen_of pins store history faults)) refl step c.half_first (ap (λ (s : List Reply). slice_get (halves_of q) (length s)) stood.calm.unanswered ∙ (c.halves ∙ ap Some (sym c.half_first))) (raise_checked pins history faults run q name uid target half store why lists c refuses shows.1 come)
+          (first_reply q said (Some (reply.Refused why)) (reply.Refused why) stood.calm.unanswered (c.replied why step))).so,
       λ e. absurd (never_more _ e),
     )
 
 pub raise_stopped : {D : Type 0} → (q : Request) (name : List ℕ) (uid : Uid) (target : List ℕ) (half : Half) (Stands : Run → ℕ → List Reply → Type 0) (store : StoreValue D) (history : Option History) (faults : Faults) → IsCopying q name uid target half → store.stopped ≡ true
-    → CopyingClause q HasNotBegun Stands store store history history faults faults did.Quiet (Some (reply.Refused refusal.Stopped))
+    → CopyingClause q IsToRaise Stands store store history history faults faults did.Quiet (Some (reply.Refused refusal.Stopped))
 raise_stopped q name uid target half Stands store history faults c stopped = λ around behind pins run lane place said lists come shows stood. (
-  (did_stop around behind run lane place said q First lists (seen_of pins store history faults) (raise_refuses around run place q name uid target half refusal.Stopped c stood.0) come shows stopped).so,
+  (did_stop around behind run lane place said q First lists (seen_of pins store history faults) (raise_refuses around run place said q name uid target half refusal.Stopped c stood) come shows stopped).so,
   λ e. absurd (never_more _ e),
 )
 
 pub raise_unremembered : {D : Type 0} → (q : Request) (name : List ℕ) (uid : Uid) (target : List ℕ) (half : Half) (Stands : Run → ℕ → List Reply → Type 0) (store : StoreValue D) (history : Option History) (faults : Faults) → IsCopying q name uid target half → store.stopped ≡ false
-    → CopyingClause q HasNotBegun Stands store store history history faults faults did.Quiet (Some (reply.Refused refusal.NoMemory))
+    → CopyingClause q IsToRaise Stands store store history history faults faults did.Quiet (Some (reply.Refused refusal.NoMemory))
 raise_unremembered q name uid target half Stands store history faults c runs = λ around behind pins run lane place said lists come shows stood.
     let seen = seen_of pins store history faults in (
-      (did_forget around behind run lane place said q First lists seen seen (Some (reply.Refused refusal.NoMemory)) no_numbers (raise_refuses around run place q name uid target half refusal.NoMemory c stood.0) (stays_left _ _ _ _ _ _ _ _ _ come (stays_itself seen) shows) runs runs (nothing lists seen) refl c.memory_first (λ event. inl refl)
-          (replied_so q said (reply.Refused refusal.NoMemory) stood.1)).so,
+      (did_forget around behind run lane place said q First lists seen seen (Some (reply.Refused refusal.NoMemory)) no_numbers (raise_refuses around run place said q name uid target half refusal.NoMemory c stood) (stays_left _ _ _ _ _ _ _ _ _ come (stays_itself seen) shows) runs runs (nothing lists seen) refl c.memory_first (λ event. inl refl)
+          (replied_so q said (reply.Refused refusal.NoMemory) stood.calm.unanswered)).so,
       λ e. absurd (never_more _ e),
     )
 
 pub raise_fell : {D : Type 0} → (q : Request) (name : List ℕ) (uid : Uid) (target : List ℕ) (half : Half) (Stands : Run → ℕ → List Reply → Type 0) (old new : StoreValue D) (before after : Option History) (began faulted : Faults) → IsCopying q name uid target half → old.stopped ≡ false → MapFell old new before after began faulted
-    → CopyingClause q HasNotBegun Stands old new before after began faulted did.Failed (Some (reply.Refused refusal.Stopped))
+    → CopyingClause q IsToRaise Stands old new before after began faulted did.Failed (Some (reply.Refused refusal.Stopped))
 raise_fell q name uid target half Stands old new before after began faulted c ran f = λ around behind pins run lane place said lists come shows stood.
     let seen = seen_of pins old before began in
     let later = seen_of pins new after faulted in (
-      (did_fall around behind run lane place said q First lists seen later did.Failed no_numbers (raise_refuses around run place q name uid target half refusal.Stopped c stood.0)
+      (did_fall around behind run lane place said q First lists seen later did.Failed no_numbers (raise_refuses around run place said q name uid target half refusal.Stopped c stood)
           (stays_left _ _ _ _ _ _ _ _ _ come (map_fell_stays pins old new before after began faulted f) (shows_still pins old new before after began faulted lists f.appends shows)) ran f.stopped f.rose (λ event. inl refl) tt (record { refused = refl; unanswered = refl; ran = ran; stopped = f.stopped }, λ s. f.appends.moments lists s.0)).so,
       λ e. absurd (never_more _ e),
     )
@@ -140,18 +142,18 @@ raised_due : (old new held uid : ℕ) → new ≡ old + one_due held uid → new
 raised_due old new held uid e = omega (arith, e)
 
 -- the request holds the record behind such an event
-holds_then : (run : Run) (event : RunEvent) (place : ℕ) (said : List Reply) (held : MapUid) (source : ℕ) → HasNotBegun run place said → event.request ≡ place → event.part ≡ First → event.refused ≡ None → event.map_entries ≡ map_entry.U held ∷ [] → event.box_entries ≡ [] → event.source ≡ source
+holds_then : (run : Run) (event : RunEvent) (place : ℕ) (said : List Reply) (held : MapUid) (source : ℕ) → IsToRaise run place said → 1 ≤ source → event.request ≡ place → event.part ≡ First → event.refused ≡ None → event.map_entries ≡ map_entry.U held ∷ [] → event.box_entries ≡ [] → event.source ≡ source
     → IsHolding held source (and_then run event) place said
-holds_then run event place said held source stood own part unrefused raised unlisted from = record {
-  calm = unrefused_more run event place said own unrefused (record { unrefused = ap last_refusal stood.0; unanswered = stood.1 });
+holds_then run event place said held source stood some own part unrefused raised unlisted from = record {
+  calm = unrefused_more run event place said own unrefused stood.calm;
   last = ends_in place run event First own part;
   held_is = held_new place run event held own raised;
-  source_is = source_first place run event own stood.0 ∙ from;
-  uncopied = copied_new place run event own (ap (λ (es : List RunEvent). uid_added (flat_map (λ (e : RunEvent). e.box_entries) es)) stood.0) ∙ ap uid_added unlisted;
+  source_is = source_new place run event source own some from;
+  uncopied = copied_new place run event own stood.uncopied ∙ ap uid_added unlisted;
 }
 
 pub raise_done : {D : Type 0} → (q : Request) (name : List ℕ) (uid : Uid) (target : List ℕ) (half : Half) (held : MapUid) (source : BoxNo) (old new : StoreValue D) (before after : Option History) (began faulted : Faults) → IsCopying q name uid target half → IsStore before old → old.stopped ≡ false → RaisesRow name uid target held source old new before after began faulted
-    → CopyingClause q HasNotBegun (IsHolding held source.0) old new before after began faulted did.Quiet None
+    → CopyingClause q IsToRaise (IsHolding held source.0) old new before after began faulted did.Quiet None
 raise_done q name uid target half held source old new before after began faulted c is ran r = λ around behind pins run lane place said lists come shows stood.
     let s = shown_row old name uid.0 r.at.source r.row lists r.at.from shows.1 in
     let k = record_of_row before old name uid.0 r.at.source r.row is r.at.from in
@@ -166,7 +168,7 @@ raise_done q name uid target half held source old new before after began faulted
       own = own_event event refl;
       finds = c.finds around event;
       found = c.found around run event First;
-      part_is = ap (λ (es : List RunEvent). next_part around run q es) stood.0;
+      part_is = raise_next around run q name uid target half place said c stood;
       allowed = raise_allowed pins before began run q name uid target half old r.row r.number r.next lists c r.at r.few shows.1 come event;
       fits = one_fits run seen (map_entry.U (record { 0 = k.entry.uid })) come (subst (λ (u : ℕ). MapFits old.map (map_entry.U (record { 0 = u }))) (sym own) r.took.fits);
       did = c.did_first around run lists event (s.mailbox, k.entry, s.named, (s.message, s.there, ap (λ (m : MapMeaning). record_of m s.message.guid) come.come.map_is ∙ k.by_guid s.message.guid (shown_guid name uid.0 r.at.source lists r.row s)), refl);
@@ -176,4 +178,4 @@ raise_done q name uid target half held source old new before after began faulted
     (λ other. subst (λ (u : ℕ). due_at other new + 0 ≡ due_at other old + ((0 + one_due u other) + 0)) (sym own) (raised_due (due_at other old) (due_at other new) held.0 other (r.took.due other)))
     (took_tells pins (raising_of held) old new before after began faulted ran r.took) (shows_still pins old new before after began faulted lists a shows) a.grows (a.stays old.map) (sym c.steps_first) refl (refl, r.took.runs ∙ sym ran, leads_still pins (raising_of held) old new before after began faulted lists r.took)
     (ends_well q said event None None did.Quiet seen later refl ran r.took.runs r.took.unfailed (λ x. x) (λ e. no_reply (reply.Refused refusal.Stopped) e) (λ some. absurd (let f : false ≡ true = some in cc f)) (λ given e. absurd (no_reply given e))))
-    (λ goes_on. holds_then run event place said held source.0 stood refl refl refl (ap (λ (u : ℕ). map_entry.U (record { 0 = u }) ∷ []) own) refl (s.number_is ∙ r.source_is))
+    (λ goes_on. holds_then run event place said held source.0 stood (source_some before old name source.0 is (r.at.from.box.number_is ∙ ap Some r.source_is)) refl refl refl (ap (λ (u : ℕ). map_entry.U (record { 0 = u }) ∷ []) own) refl (s.number_is ∙ r.source_is))

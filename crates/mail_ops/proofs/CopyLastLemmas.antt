@@ -1,9 +1,9 @@
 -- The second event of a copy or a move, by the clause of a step: the message is added, or it is refused, and the count given back.
 use Rattle.mail_ops.proofs.Common.{All-nil, common_steps, nat_tests, ◌≡◌, ◌≤◌, ◌+◌, ℕ, Bool, true, false, List, [], ◌∷◌, ◌++◌, map, Option, Some, None, refl, sym, ◌∙◌, ap, subst, arith, inl, inr, ◌⊎◌, length, slice_get, if◌then◌else◌, option_or, eq-eqb, ne_eqb, History, Faults, told_calls, MapEntry}
-use Rattle.mail_ops.proofs.Common.{MapUid, Uid, ListRow, Refusal, Reply, Request, Half, lists_by, meanings_by, ListedMessage, Mailbox, Lists, AreWellFormed, listing_row, LogRow, BoxMeaning, MapMeaning, map_meaning, no_numbers, listed_row, ShowLists, IsSettledFor, Leaves, First, Last, GivesBack}
+use Rattle.mail_ops.proofs.Common.{BoxNo, MapUid, Uid, ListRow, Refusal, Reply, Request, Half, lists_by, meanings_by, ListedMessage, Mailbox, Lists, AreWellFormed, listing_row, LogRow, BoxMeaning, MapMeaning, map_meaning, no_numbers, listed_row, ShowLists, IsSettledFor, Leaves, First, Last, GivesBack, StartsOver, EndsInPart}
 use Rattle.mail_ops.proofs.Common.{RunEvent, event_of, Run, and_then, map_of, own_events, first_refusal, part_checks, is_step, mailbox_named, answers_well, halves_of, IsReplyOf, Around, is_elsewhere, last_refusal, next_part, own_more, own_other, Brings, due_at, IsStore, StoreValue, indexes_of}
 use Rattle.mail_ops.proofs.Common.{one_due, number_named, HasComeTo, IsKept, MapTook, MapFell, lowering_of, IsHolding, copy_refusal, added_copy, AddsRow, FellAdding, seen_of, CanRefuse, did_check, did_fall, did_forget, did_own, did_stop, ends_well, no_reply, own_event, refuses, replied_so}
-use Rattle.mail_ops.proofs.Common.{some_reply, stands_by, stays_left, comes_along, stays_itself, first_reply, never_more, nothing}
+use Rattle.mail_ops.proofs.Common.{some_reply, stands_by, stays_left, comes_along, stays_itself, first_reply, mail_still, never_more, nothing, tells_itself}
 use Rattle.mdbox_base.specs.declared.entries.BoxEntry.TheVariants as box_entry
 use Rattle.mdbox_base.specs.declared.progress.Did.TheVariants as did
 use Rattle.mdbox_base.specs.declared.replies.Refusal.TheVariants as refusal
@@ -14,18 +14,19 @@ use Rattle.model_appends.specs.Amounts.{due_by_box}
 use Rattle.model_store.specs.Settled.{files_of}
 use Rattle.model_store.specs.Stands.{AreMailboxes}
 use Rattle.model_store.proofs.StandsLemmas.{map_same}
-use Rattle.list_machine.specs.Machine.{IsCopied, add_message}
+use Rattle.list_machine.specs.Machine.{IsCopied, add_message, copy_checks}
+use Rattle.list_machine.specs.Run.{uid_added}
 use Rattle.journal.specs.Events.{adds_to, lowers}
 use Rattle.entry_steps.proofs.AppendListLemmas.{added_by}
-use Rattle.mail_ops.specs.CopyStages.{IsGivingBack, answered_by}
-use Rattle.mail_ops.specs.Copying.{CopyPlace}
+use Rattle.mail_ops.specs.CopyStages.{IsToRaise, IsBeginningAgain, IsGivingBack, adding_part, answered_by}
+use Rattle.mail_ops.specs.Copying.{CopyPlace, IsNamedElsewhere}
 use Rattle.mail_ops.proofs.CopyFirstLemmas.{CopyingClause, place_free, copy_steps}
-use Rattle.mail_ops.proofs.CopyPartLemmas.{IsCopying, adding_part, adds_next, back_ends, copy_copies, gives_back_next, holding_next}
-use Rattle.mail_ops.proofs.CopyPlaceLemmas.{place_checked}
+use Rattle.mail_ops.proofs.CopyPartLemmas.{IsCopying, adds_next, back_ends, back_goes_on, begins_next, copy_copies, elsewhere_is, gives_back_next, holding_next}
+use Rattle.mail_ops.proofs.CopyPlaceLemmas.{place_checked, place_checks}
 use Rattle.task_steps.proofs.EventLaws.{last_with, refusal_event, step_calm}
 use Rattle.mail_ops.proofs.FlagEventLemmas.{shown_on}
 use Rattle.mail_ops.proofs.FlagListLemmas.{numbered}
-use Rattle.mail_ops.proofs.LastEventLemmas.{copied_by, ends_in, ends_still, held_by, held_same, last_before, source_by, unrefused_still}
+use Rattle.mail_ops.proofs.LastEventLemmas.{copied_by, copied_new, ends_in, ends_still, held_by, held_same, last_before, source_by, unrefused_more, unrefused_still}
 use Rattle.mail_ops.proofs.LoweringLemmas.{comes_with, lowered_due, shows_still, leads_still, one_fits}
 use Rattle.mail_ops.proofs.MessageLemmas.{ShownRow, shown_row, shown_guid, record_of_row, store_is_sound, stored_by}
 use Rattle.mail_ops.proofs.NamedListLemmas.{ShownBox, ShowsBox, shows_box}
@@ -119,45 +120,52 @@ brings_copy (Some h) store name uid target row number given lists is runs at k s
 pub named_in : {D : Type 0} → (pins : ℕ → ℕ) (run : Run) (name : List ℕ) (source : ℕ) (store : StoreValue D) (history : Option History) (faults : Faults) → HasComeTo run (seen_of pins store history faults) → number_named store.map name ≡ Some source → number_named (map_of run) name ≡ Some source
 named_in pins run name source store history faults come named = ap (λ (m : MapMeaning). number_named m name) come.come.map_is ∙ named
 
-add_goes_on : (around : Around) (run : Run) (place : ℕ) (said : List Reply) (q : Request) (name : List ℕ) (uid : Uid) (target : List ℕ) (half : Half) (held : MapUid) (source : ℕ) (why : Refusal) → IsCopying q name uid target half → IsHolding held source run place said → number_named (map_of run) name ≡ Some source → (why ≡ refusal.Stopped → ⊥)
-    → CanRefuse around run place q Last why None no_numbers
-add_goes_on around run place said q name uid target half held source why c h named other = record {
+add_goes_on : (around : Around) (run : Run) (place : ℕ) (q : Request) (name : List ℕ) (uid : Uid) (target : List ℕ) (half : Half) (elsewhere : Bool) (why : Refusal) → IsCopying q name uid target half → next_part around run q (own_events place run) ≡ Some (adding_part elsewhere) → (why ≡ refusal.Stopped → ⊥)
+    → CanRefuse around run place q (adding_part elsewhere) why None no_numbers
+add_goes_on around run place q name uid target half elsewhere why c next other = record {
   finds = λ lane calls. c.finds around _;
-  found = λ lane calls. c.found around run _ Last;
-  part_is = adds_next around run q name uid target half held source place said c h named;
-  ends = record { 0 = λ h. absurd (h refl); 1 = λ h. absurd (some_part GivesBack (sym (c.refused_last why other) ∙ h)) };
+  found = λ lane calls. c.found around run _ (adding_part elsewhere);
+  part_is = next;
+  ends = record { 0 = λ h. absurd (h refl); 1 = λ h. absurd (some_part GivesBack (sym (c.refused_adding elsewhere why other) ∙ h)) };
   replied = λ given e. absurd (no_reply given e);
 }
 
 -- The store is stopped, or stops. In one that was stopped before, the name of the source may name another mailbox.
 add_stops : (around : Around) (run : Run) (place : ℕ) (q : Request) (name : List ℕ) (uid : Uid) (target : List ℕ) (half : Half) (elsewhere : Bool) → IsCopying q name uid target half → next_part around run q (own_events place run) ≡ Some (adding_part elsewhere)
     → CanRefuse around run place q (adding_part elsewhere) refusal.Stopped (Some (reply.Refused refusal.Stopped)) no_numbers
-add_stops around run place q name uid target half elsewhere c next = refuses around run place q (adding_part elsewhere) refusal.Stopped no_numbers (λ lane calls. c.finds around _) (λ lane calls. c.found around run _ (adding_part elsewhere)) next (c.stopped_last elsewhere)
+add_stops around run place q name uid target half elsewhere c next = refuses around run place q (adding_part elsewhere) refusal.Stopped no_numbers (λ lane calls. c.finds around _) (λ lane calls. c.found around run _ (adding_part elsewhere)) next (c.stopped_adding elsewhere)
 
 -- the request gives the count back behind such an event
-gives_back_then : (run : Run) (event : RunEvent) (place : ℕ) (said now : List Reply) (held : MapUid) (source : ℕ) (why : Refusal) → IsHolding held source run place said → event.request ≡ place → event.part ≡ Last → event.refused ≡ Some why → event.map_entries ≡ [] → now ≡ answered_by why → (is_step why ≡ true) ⊎ (why ≡ refusal.NoMemory)
+gives_back_then : (run : Run) (event : RunEvent) (place : ℕ) (said now : List Reply) (held : MapUid) (source : ℕ) (why : Refusal) (elsewhere : Bool) → IsHolding held source run place said → event.request ≡ place → event.part ≡ adding_part elsewhere → event.refused ≡ Some why → event.map_entries ≡ [] → now ≡ answered_by why → (is_step why ≡ true) ⊎ (why ≡ refusal.NoMemory)
     → IsGivingBack held why (and_then run event) place now
-gives_back_then run event place said now held source why h own part refused bare is cause = record {
-  last = ends_in place run event Last own part;
+gives_back_then run event place said now held source why elsewhere h own part refused bare is cause = record {
+  elsewhere = elsewhere;
+  last = ends_in place run event (adding_part elsewhere) own part;
   refused = refused;
   held_is = held_same place run event own bare ∙ h.held_is;
   said_is = is;
   cause = cause;
 }
 
-pub place_refuses : {D : Type 0} → (run : Run) (q : Request) (name : List ℕ) (uid : Uid) (target : List ℕ) (half : Half) (store : StoreValue D) (lists : Lists) (why : Option Refusal) → IsCopying q name uid target half → ShowLists store.map.boxes (indexes_of store.boxes) lists → copy_refusal name uid.0 target store ≡ why
-    → (event : RunEvent) → first_refusal run lists (part_checks run event q Last) ≡ option_or why None
-place_refuses run q name uid target half store lists why c h e = λ event. ap (first_refusal run lists) (c.checks run event Last) ∙ (place_checked run name uid.0 target store lists [] h ∙ ap (λ (r : Option Refusal). option_or r None) e)
+adding_checks : (name : List ℕ) (uid : ℕ) (target : List ℕ) (elsewhere : Bool) → copy_checks name uid target (adding_part elsewhere) ≡ place_checks name uid target []
+adding_checks name uid target true = refl
+adding_checks name uid target false = refl
 
-pub add_refused : {D : Type 0} → (q : Request) (name : List ℕ) (uid : Uid) (target : List ℕ) (half : Half) (held : MapUid) (source : ℕ) (store : StoreValue D) (history : Option History) (faults : Faults) (why : Refusal) → IsCopying q name uid target half → store.stopped ≡ false → number_named store.map name ≡ Some source → copy_refusal name uid.0 target store ≡ Some why
+pub place_refuses : {D : Type 0} → (run : Run) (q : Request) (name : List ℕ) (uid : Uid) (target : List ℕ) (half : Half) (elsewhere : Bool) (store : StoreValue D) (lists : Lists) (why : Option Refusal) → IsCopying q name uid target half → ShowLists store.map.boxes (indexes_of store.boxes) lists → copy_refusal name uid.0 target store ≡ why
+    → (event : RunEvent) → first_refusal run lists (part_checks run event q (adding_part elsewhere)) ≡ option_or why None
+place_refuses run q name uid target half elsewhere store lists why c h e = λ event.
+    ap (first_refusal run lists) (c.checks run event (adding_part elsewhere) ∙ adding_checks name uid.0 target elsewhere) ∙ (place_checked run name uid.0 target store lists [] h ∙ ap (λ (r : Option Refusal). option_or r None) e)
+
+pub add_refused : {D : Type 0} → (q : Request) (name : List ℕ) (uid : Uid) (target : List ℕ) (half : Half) (held : MapUid) (source : ℕ) (store : StoreValue D) (history : Option History) (faults : Faults) (why : Refusal) → IsCopying q name uid target half → store.stopped ≡ false → copy_refusal name uid.0 target store ≡ Some why
     → CopyingClause q (IsHolding held source) (IsGivingBack held why) store store history history faults faults (did.Step half) None
-add_refused q name uid target half held source store history faults why c runs named refuses = λ around behind pins run lane place said lists come shows stood.
+add_refused q name uid target half held source store history faults why c runs refuses = λ around behind pins run lane place said lists come shows stood.
+    let elsewhere = is_elsewhere run place name in
     let step = copy_steps name uid.0 target store why refuses in
     let none = stood.calm.unanswered in
-    let event : RunEvent = refusal_event lane place Last why None no_numbers (told_calls history) in
+    let event : RunEvent = refusal_event lane place (adding_part elsewhere) why None no_numbers (told_calls history) in
     stands_by around behind run lane place said q lists (seen_of pins store history faults) (seen_of pins store history faults) (did.Step half) None event (Some (reply.Refused why)) (IsGivingBack held why)
-    (did_check around behind run lane place said q Last lists (seen_of pins store history faults) (seen_of pins store history faults) why None half (add_goes_on around run place said q name uid target half held source why c stood (named_in pins run name source store history faults come named) (step_calm why refusal.Stopped step refl)) (stays_left _ _ _ _ _ _ _ _ _ come (stays_itself (seen_of pins store history faults)) shows) runs runs (nothing lists (seen_of pins store history faults)) refl step c.half_last (ap (λ (s : List Reply). slice_get (halves_of q) (length s)) none ∙ (c.halves ∙ ap Some (sym c.half_last))) (place_refuses run q name uid target half store lists (Some why) c shows.1 refuses) (λ given e. absurd (no_reply given e)))
-    (λ goes_on. gives_back_then run event place said (said ++ reply.Refused why ∷ []) held source why stood refl refl refl refl (ap (λ (s : List Reply). s ++ reply.Refused why ∷ []) none ∙ sym (ap (λ (b : Bool). if b then reply.Refused why ∷ [] else []) step)) (inl step))
+    (did_check around behind run lane place said q (adding_part elsewhere) lists (seen_of pins store history faults) (seen_of pins store history faults) why None half (add_goes_on around run place q name uid target half elsewhere why c (holding_next around run q name uid target half held source place said c stood) (step_calm why refusal.Stopped step refl)) (stays_left _ _ _ _ _ _ _ _ _ come (stays_itself (seen_of pins store history faults)) shows) runs runs (nothing lists (seen_of pins store history faults)) refl step (c.half_adding elsewhere) (ap (λ (s : List Reply). slice_get (halves_of q) (length s)) none ∙ (c.halves ∙ ap Some (sym (c.half_adding elsewhere)))) (place_refuses run q name uid target half elsewhere store lists (Some why) c shows.1 refuses) (λ given e. absurd (no_reply given e)))
+    (λ goes_on. gives_back_then run event place said (said ++ reply.Refused why ∷ []) held source why elsewhere stood refl refl refl refl (ap (λ (s : List Reply). s ++ reply.Refused why ∷ []) none ∙ sym (ap (λ (b : Bool). if b then reply.Refused why ∷ [] else []) step)) (inl step))
 
 pub add_unremembered : {D : Type 0} → (q : Request) (name : List ℕ) (uid : Uid) (target : List ℕ) (half : Half) (held : MapUid) (source : ℕ) (store : StoreValue D) (history : Option History) (faults : Faults) → IsCopying q name uid target half → store.stopped ≡ false → number_named store.map name ≡ Some source
     → CopyingClause q (IsHolding held source) (IsGivingBack held refusal.NoMemory) store store history history faults faults did.Quiet None
@@ -165,9 +173,9 @@ add_unremembered q name uid target half held source store history faults c runs 
     let seen = seen_of pins store history faults in
     let event : RunEvent = refusal_event lane place Last refusal.NoMemory None no_numbers (told_calls history) in
     stands_by around behind run lane place said q lists seen seen did.Quiet None event None (IsGivingBack held refusal.NoMemory)
-    (did_forget around behind run lane place said q Last lists seen seen None no_numbers (add_goes_on around run place said q name uid target half held source refusal.NoMemory c stood (named_in pins run name source store history faults come named) memory_runs) (stays_left _ _ _ _ _ _ _ _ _ come (stays_itself seen) shows) runs runs (nothing lists seen) refl c.memory_last
+    (did_forget around behind run lane place said q Last lists seen seen None no_numbers (add_goes_on around run place q name uid target half false refusal.NoMemory c (adds_next around run q name uid target half held source place said c stood (named_in pins run name source store history faults come named)) memory_runs) (stays_left _ _ _ _ _ _ _ _ _ come (stays_itself seen) shows) runs runs (nothing lists seen) refl c.memory_last
     (λ event. inl refl) (λ given e. absurd (no_reply given e)))
-    (λ goes_on. gives_back_then run event place said said held source refusal.NoMemory stood refl refl refl refl stood.calm.unanswered (inr refl))
+    (λ goes_on. gives_back_then run event place said said held source refusal.NoMemory false stood refl refl refl refl stood.calm.unanswered (inr refl))
 
 pub add_stopped : {D : Type 0} → (q : Request) (name : List ℕ) (uid : Uid) (target : List ℕ) (half : Half) (held : MapUid) (source : ℕ) (Stands : Run → ℕ → List Reply → Type 0) (store : StoreValue D) (history : Option History) (faults : Faults) → IsCopying q name uid target half → store.stopped ≡ true
     → CopyingClause q (IsHolding held source) Stands store store history history faults faults did.Quiet (Some (reply.Refused refusal.Stopped))
@@ -199,9 +207,9 @@ copied_runs given e = let k : reply.Copied given ≡ reply.Refused refusal.Stopp
 pub is_copied : {D : Type 0} → (store : StoreValue D) (name : List ℕ) (uid : Uid) (target : List ℕ) (row : LogRow) (number : ℕ) (given : Uid) (lists : Lists) → (k : CopyKnown store name uid target row number given lists) → IsCopied lists name uid.0 target given.0 (add_message target k.shown.message lists)
 is_copied store name uid target row number given lists k = record { message = k.shown.message; mailbox = k.mailbox; source_is = k.shown.there; target_is = k.named; given_is = k.given_is; new_is = refl }
 
-pub copy_added : {D : Type 0} → (name : List ℕ) (uid : Uid) (target : List ℕ) (held : MapUid) (source : ℕ) (given : Uid) (Stands : Run → ℕ → List Reply → Type 0) (old new : StoreValue D) (before after : Option History) (began faulted : Faults) → IsStore before old → old.stopped ≡ false → ((other : ℕ) → one_due held.0 other ≤ due_at other old) → number_named old.map name ≡ Some source
-    → AddsRow name uid target held given old new before after began faulted → CopyingClause (request.Copy name uid target) (IsHolding held source) Stands old new before after began faulted (did.Step half_is.Whole) (Some (reply.Copied given))
-copy_added name uid target held source given Stands old new before after began faulted is ran due named r = λ around behind pins run lane place said lists come shows stood.
+pub copy_added : {D : Type 0} → (name : List ℕ) (uid : Uid) (target : List ℕ) (held : MapUid) (source : BoxNo) (given : Uid) (Stands : Run → ℕ → List Reply → Type 0) (old new : StoreValue D) (before after : Option History) (began faulted : Faults) → IsStore before old → old.stopped ≡ false → ((other : ℕ) → one_due held.0 other ≤ due_at other old)
+    → AddsRow name uid target held source given old new before after began faulted → CopyingClause (request.Copy name uid target) (IsHolding held source.0) Stands old new before after began faulted (did.Step half_is.Whole) (Some (reply.Copied given))
+copy_added name uid target held source given Stands old new before after began faulted is ran due r = λ around behind pins run lane place said lists come shows stood.
     let q = request.Copy name uid target in
     let c = copy_copies name uid target in
     let k = copy_known old name uid target r.row r.number given lists r.at shows.0 shows.1 in
@@ -210,14 +218,14 @@ copy_added name uid target held source given Stands old new before after began f
     let a = r.took.appends in
     let seen = seen_of pins old before began in
     let later = seen_of pins new after faulted in
-    let allowed = place_refuses run q name uid target half_is.Whole old lists None c shows.1 (place_free name uid.0 target old r.row r.number given.0 r.at) event in
+    let allowed = place_refuses run q name uid target half_is.Whole false old lists None c shows.1 (place_free name uid.0 target old r.row r.number given.0 r.at) event in
     let copied = is_copied old name uid target r.row r.number given lists k in (
       (did_own around behind run lane place said q lists (add_message target k.shown.message lists) seen later (did.Step half_is.Whole) ended ended event
           (record {
             own = own_event event refl;
             finds = tt;
             found = tt;
-            part_is = adds_next around run q name uid target half_is.Whole held source place said c stood (named_in pins run name source old before began come named);
+            part_is = adds_next around run q name uid target half_is.Whole held source.0 place said c stood (named_in pins run name source.0 old before began come (r.at.from.box.number_is ∙ ap Some r.source_is));
             allowed = allowed;
             fits = All-nil _;
             did = (k.shown.message, k.shown.there, (k.mailbox, held.0, k.named, stood.held_is, refl));
@@ -244,18 +252,18 @@ copy_added name uid target held source given Stands old new before after began f
 
 -- ---- it fell
 
-pub add_fell : {D : Type 0} → (q : Request) (name : List ℕ) (uid : Uid) (target : List ℕ) (half : Half) (held : MapUid) (source : ℕ) (Stands : Run → ℕ → List Reply → Type 0) (old new : StoreValue D) (before after : Option History) (began faulted : Faults) → IsCopying q name uid target half → IsStore before old → old.stopped ≡ false
-    → number_named old.map name ≡ Some source → FellAdding name uid target held old new before after began faulted → CopyingClause q (IsHolding held source) Stands old new before after began faulted (did.Broken half) (Some (reply.Refused refusal.Stopped))
-add_fell q name uid target half held source Stands old new before after began faulted c is ran named r = λ around behind pins run lane place said lists come shows stood.
+pub add_fell : {D : Type 0} → (q : Request) (name : List ℕ) (uid : Uid) (target : List ℕ) (half : Half) (held : MapUid) (source : BoxNo) (Stands : Run → ℕ → List Reply → Type 0) (old new : StoreValue D) (before after : Option History) (began faulted : Faults) → IsCopying q name uid target half → IsStore before old → old.stopped ≡ false
+    → FellAdding name uid target held source old new before after began faulted → CopyingClause q (IsHolding held source.0) Stands old new before after began faulted (did.Broken half) (Some (reply.Refused refusal.Stopped))
+add_fell q name uid target half held source Stands old new before after began faulted c is ran r = λ around behind pins run lane place said lists come shows stood.
     let k = copy_known old name uid target r.row r.number r.given lists r.at shows.0 shows.1 in
     let would : RunEvent = adding lane place k.mailbox k.shown.message held.0 None (told_calls after) in
     let seen = seen_of pins old before began in
     let later = seen_of pins new after faulted in
-    let allowed = place_refuses run q name uid target half old lists None c shows.1 (place_free name uid.0 target old r.row r.number r.given.0 r.at) would in (
-      (did_fall around behind run lane place said q Last lists seen later (did.Broken half) no_numbers (add_stops around run place q name uid target half false c (adds_next around run q name uid target half held source place said c stood (named_in pins run name source old before began come named)))
+    let allowed = place_refuses run q name uid target half false old lists None c shows.1 (place_free name uid.0 target old r.row r.number r.given.0 r.at) would in (
+      (did_fall around behind run lane place said q Last lists seen later (did.Broken half) no_numbers (add_stops around run place q name uid target half false c (adds_next around run q name uid target half held source.0 place said c stood (named_in pins run name source.0 old before began come (r.at.from.box.number_is ∙ ap Some r.source_is))))
           (stays_left _ _ _ _ _ _ _ _ _ come (box_fell_stays pins r.number (added_copy r.given r.row) old new before after began faulted r.fell) (shows.0, shown_on seen later (indexes_of old.boxes) lists r.fell.appends.map r.fell.indexes shows.1)) ran r.fell.stopped r.fell.rose (λ event. inl refl) tt (
             record { refused = refl; unanswered = refl; ran = ran; stopped = r.fell.stopped },
-            c.half_last,
+            c.half_adding false,
             (
               record {
                 would = would;
@@ -339,7 +347,110 @@ given_back q name uid target half held why Stands old new before after began fau
       λ e. absurd (never_more _ e),
     )
 
+-- ---- the name of its source names another mailbox: it gives the count back, and begins again
+
+abbrev pub starting_over : ℕ → ℕ → ℕ → RunEvent
+starting_over lane place calls = event_of lane place StartsOver calls
+
+pub add_elsewhere : {D : Type 0} → (q : Request) (name : List ℕ) (uid : Uid) (target : List ℕ) (half : Half) (held : MapUid) (source : ℕ) (store : StoreValue D) (history : Option History) (faults : Faults) → IsCopying q name uid target half → store.stopped ≡ false → IsNamedElsewhere name uid.0 target source store
+    → CopyingClause q (IsHolding held source) (IsBeginningAgain held) store store history history faults faults did.Quiet None
+add_elsewhere q name uid target half held source store history faults c runs n = λ around behind pins run lane place said lists come shows stood.
+    let seen = seen_of pins store history faults in
+    let event : RunEvent = starting_over lane place (told_calls history) in
+    let elsewhere = elsewhere_is run place name source n.other (named_in pins run name n.other store history faults come n.named) n.differs stood.source_is in
+    stands_by around behind run lane place said q lists seen seen did.Quiet None event None (IsBeginningAgain held)
+    (did_own around behind run lane place said q lists lists seen seen did.Quiet None None event
+    (record {
+      own = own_event event refl;
+      finds = c.finds around event;
+      found = c.found around run event StartsOver;
+      part_is = holding_next around run q name uid target half held source place said c stood ∙ ap (λ (b : Bool). Some (adding_part b)) elsewhere;
+      allowed = place_refuses run q name uid target half true store lists None c shows.1 n.free event;
+      fits = All-nil _;
+      did = c.did_over around run lists event refl;
+      ends = record { 0 = λ h. absurd (h refl); 1 = λ h. absurd (some_part GivesBack (sym (c.behind_over behind (and_then run event) event refl) ∙ h)) };
+      replied = tt;
+    }) (record { made = refl; pins = refl; unpins = refl; doomed = refl; removed = refl; given = refl; placed = refl; gone = refl }) come (comes_along run event seen seen come refl refl (omega arith) refl refl refl) (λ other. refl) (tells_itself seen) shows (omega arith) (mail_still seen.map seen.history) (sym c.steps_over) refl
+    (refl, refl, nothing lists seen)
+    (ends_well q said event None None did.Quiet seen seen refl runs runs refl (λ x. x) (λ e. no_reply (reply.Refused refusal.Stopped) e) (λ some. absurd (let f : false ≡ true = some in cc f)) (λ given e. absurd (no_reply given e))))
+    (λ goes_on. record {
+      calm = unrefused_more run event place said refl refl stood.calm;
+      last = ends_in place run event StartsOver refl refl;
+      held_is = held_same place run event refl refl ∙ stood.held_is;
+      uncopied = copied_new place run event refl stood.uncopied;
+    })
+
+again_stops : (around : Around) (run : Run) (place : ℕ) (said : List Reply) (q : Request) (name : List ℕ) (uid : Uid) (target : List ℕ) (half : Half) (held : MapUid) → IsCopying q name uid target half → IsBeginningAgain held run place said → CanRefuse around run place q GivesBack refusal.Stopped (Some (reply.Refused refusal.Stopped)) no_numbers
+again_stops around run place said q name uid target half held c b =
+    refuses around run place q GivesBack refusal.Stopped no_numbers (λ lane calls. c.finds around _) (λ lane calls. c.found around run _ GivesBack) (begins_next around run q name uid target half held place said c b) (c.refused_back refusal.Stopped)
+
+pub again_stopped : {D : Type 0} → (q : Request) (name : List ℕ) (uid : Uid) (target : List ℕ) (half : Half) (held : MapUid) (Stands : Run → ℕ → List Reply → Type 0) (store : StoreValue D) (history : Option History) (faults : Faults) → IsCopying q name uid target half → store.stopped ≡ true
+    → CopyingClause q (IsBeginningAgain held) Stands store store history history faults faults did.Quiet (Some (reply.Refused refusal.Stopped))
+again_stopped q name uid target half held Stands store history faults c stopped = λ around behind pins run lane place said lists come shows stood. (
+  (did_stop around behind run lane place said q GivesBack lists (seen_of pins store history faults) (again_stops around run place said q name uid target half held c stood) come shows stopped).so,
+  λ e. absurd (never_more _ e),
+)
+
+pub again_fell : {D : Type 0} → (q : Request) (name : List ℕ) (uid : Uid) (target : List ℕ) (half : Half) (held : MapUid) (Stands : Run → ℕ → List Reply → Type 0) (old new : StoreValue D) (before after : Option History) (began faulted : Faults) → IsCopying q name uid target half → old.stopped ≡ false → MapFell old new before after began faulted
+    → CopyingClause q (IsBeginningAgain held) Stands old new before after began faulted did.Failed (Some (reply.Refused refusal.Stopped))
+again_fell q name uid target half held Stands old new before after began faulted c ran f = λ around behind pins run lane place said lists come shows stood.
+    let seen = seen_of pins old before began in
+    let later = seen_of pins new after faulted in (
+      (did_fall around behind run lane place said q GivesBack lists seen later did.Failed no_numbers (again_stops around run place said q name uid target half held c stood)
+          (stays_left _ _ _ _ _ _ _ _ _ come (map_fell_stays pins old new before after began faulted f) (shows_still pins old new before after began faulted lists f.appends shows)) ran f.stopped f.rose (λ event. inl refl) tt (record { refused = refl; unanswered = refl; ran = ran; stopped = f.stopped }, λ s. f.appends.moments lists s.0)).so,
+      λ e. absurd (never_more _ e),
+    )
+
+abbrev pub giving_again : ℕ → ℕ → ℕ → ℕ → RunEvent
+giving_again lane place uid calls = record (event_of lane place GivesBack calls) { map_entries = lowers uid }
+
+-- the request is to raise a count behind such an event
+raises_then : (run : Run) (event : RunEvent) (place : ℕ) (said : List Reply) (held : MapUid) → IsBeginningAgain held run place said → event.request ≡ place → event.part ≡ GivesBack → event.refused ≡ None → event.box_entries ≡ [] → IsToRaise (and_then run event) place said
+raises_then run event place said held stood own part unrefused unlisted = record {
+  calm = unrefused_more run event place said own unrefused stood.calm;
+  last = inr (ends_in place run event GivesBack own part);
+  uncopied = copied_new place run event own stood.uncopied ∙ ap uid_added unlisted;
+}
+
+pub begun_again : {D : Type 0} → (q : Request) (name : List ℕ) (uid : Uid) (target : List ℕ) (half : Half) (held : MapUid) (old new : StoreValue D) (before after : Option History) (began faulted : Faults) → IsCopying q name uid target half → old.stopped ≡ false
+    → ((other : ℕ) → one_due held.0 other ≤ due_at other old) → MapTook (lowering_of held) old new before after began faulted → CopyingClause q (IsBeginningAgain held) IsToRaise old new before after began faulted did.Quiet None
+begun_again q name uid target half held old new before after began faulted c ran due t = λ around behind pins run lane place said lists come shows stood.
+    let event : RunEvent = giving_again lane place held.0 (told_calls after) in
+    let a = t.appends in
+    let seen = seen_of pins old before began in
+    let later = seen_of pins new after faulted in
+    let raises = raises_then run event place said held stood refl refl refl refl in
+    stands_by around behind run lane place said q lists seen later did.Quiet None event None IsToRaise
+    (did_own around behind run lane place said q lists lists seen later did.Quiet None None event
+    (record {
+      own = own_event event refl;
+      finds = c.finds around event;
+      found = c.found around run event GivesBack;
+      part_is = begins_next around run q name uid target half held place said c stood;
+      allowed = ap (first_refusal run lists) (c.checks run event GivesBack);
+      fits = one_fits run seen (lowering_of held) come t.fits;
+      did = c.did_back around run lists event (held.0, stood.held_is, refl);
+      ends = record { 0 = λ h. absurd (h refl); 1 = λ h. absurd (back_goes_on behind (and_then run event) q name uid target half event c refl raises.uncopied raises.calm.unrefused h) };
+      replied = tt;
+    }) (record { made = refl; pins = refl; unpins = refl; doomed = refl; removed = refl; given = refl; placed = refl; gone = refl }) come (comes_with run event (lowering_of held) seen later come t.taken a.drawn a.grows refl refl refl)
+    (λ u. lowered_ends (due_at u old) (due_at u new) held.0 u (lowered_due held old new u (due u) (t.due u)))
+    (took_tells pins (lowering_of held) old new before after began faulted ran t) (shows_still pins old new before after began faulted lists a shows) a.grows (a.stays old.map) (sym c.steps_back) refl (refl, t.runs ∙ sym ran, leads_still pins (lowering_of held) old new before after began faulted lists t)
+    (ends_well q said event None None did.Quiet seen later refl ran t.runs t.unfailed (λ x. x) (λ e. no_reply (reply.Refused refusal.Stopped) e) (λ some. absurd (let f : false ≡ true = some in cc f)) (λ given e. absurd (no_reply given e))))
+    (λ goes_on. raises)
+
 -- ---- as other requests go on
+
+pub to_raise_kept : IsKept IsToRaise
+to_raise_kept run place said event e new stood =
+    let same = own_other place run event (ne_eqb event.request place e) in record {
+      calm = unrefused_still run event place said same stood.calm;
+      last = by_last same stood.last;
+      uncopied = copied_by place run (and_then run event) same ∙ stood.uncopied;
+    }
+  where
+    by_last : own_events place (and_then run event) ≡ own_events place run → (own_events place run ≡ []) ⊎ EndsInPart GivesBack (own_events place run) → (own_events place (and_then run event) ≡ []) ⊎ EndsInPart GivesBack (own_events place (and_then run event))
+    by_last same (inl none) = inl (same ∙ none)
+    by_last same (inr last) = inr (ends_still (own_events place run) (own_events place (and_then run event)) GivesBack same last)
 
 pub holding_kept : (held : MapUid) (source : ℕ) → IsKept (IsHolding held source)
 holding_kept held source run place said event e new stood =
@@ -354,9 +465,19 @@ holding_kept held source run place said event e new stood =
 pub giving_back_kept : (held : MapUid) (why : Refusal) → IsKept (IsGivingBack held why)
 giving_back_kept held why run place said event e new stood =
     let same = own_other place run event (ne_eqb event.request place e) in record {
-      last = ends_still (own_events place run) (own_events place (and_then run event)) Last same stood.last;
+      elsewhere = stood.elsewhere;
+      last = ends_still (own_events place run) (own_events place (and_then run event)) (adding_part stood.elsewhere) same stood.last;
       refused = stood.refused;
       held_is = held_by place run (and_then run event) same ∙ stood.held_is;
       said_is = stood.said_is;
       cause = stood.cause;
+    }
+
+pub beginning_again_kept : (held : MapUid) → IsKept (IsBeginningAgain held)
+beginning_again_kept held run place said event e new stood =
+    let same = own_other place run event (ne_eqb event.request place e) in record {
+      calm = unrefused_still run event place said same stood.calm;
+      last = ends_still (own_events place run) (own_events place (and_then run event)) StartsOver same stood.last;
+      held_is = held_by place run (and_then run event) same ∙ stood.held_is;
+      uncopied = copied_by place run (and_then run event) same ∙ stood.uncopied;
     }

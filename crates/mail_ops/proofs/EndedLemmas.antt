@@ -16,6 +16,7 @@ pub copy_ended : {D : Type 0} → (name : List ℕ) (uid : Uid) (target : List �
 copy_ended name uid target now copy_stage.First answer how old new before after began then given on e runs = none_claimed_of (copy_dues copy_stage.First) (λ u. refl)
 copy_ended name uid target now next progress.More how old new before after began then given on e runs = absurd (more_is given e)
 copy_ended name uid target (copy_stage.Adding held source) (copy_stage.Adding still same) (progress.Done (reply.Refused why)) how old new before after began then given on e runs = absurd (fall new.stopped on.3.fell.stopped runs)
+copy_ended name uid target (copy_stage.BeginningAgain held) (copy_stage.BeginningAgain still) (progress.Done (reply.Refused why)) how old new before after began then given on e runs = absurd (fall new.stopped on.3.stopped runs)
 copy_ended name uid target (copy_stage.GivingBack held why) (copy_stage.GivingBack still cause) (progress.Done (reply.Refused told)) how old new before after began then given on e runs = absurd (fall new.stopped on.4.stopped runs)
 copy_ended name uid target now next answer how old new before after began then given on e runs = absurd on
 
@@ -29,6 +30,7 @@ pub move_ended : {D : Type 0} → (name : List ℕ) (uid : Uid) (target : List �
 move_ended name uid target now move_stage.First answer how old new before after began then given on e runs = none_claimed_of (move_dues move_stage.First) (λ u. refl)
 move_ended name uid target now next progress.More how old new before after began then given on e runs = absurd (more_is given e)
 move_ended name uid target (move_stage.Adding held source) (move_stage.Adding still same) (progress.Done (reply.Refused why)) how old new before after began then given on e runs = absurd (fall new.stopped on.3.fell.stopped runs)
+move_ended name uid target (move_stage.BeginningAgain held) (move_stage.BeginningAgain still) (progress.Done (reply.Refused why)) how old new before after began then given on e runs = absurd (fall new.stopped on.3.stopped runs)
 move_ended name uid target (move_stage.GivingBack held why) (move_stage.GivingBack still cause) (progress.Done (reply.Refused told)) how old new before after began then given on e runs = absurd (fall new.stopped on.4.stopped runs)
 move_ended name uid target (move_stage.Removing held copied source) (move_stage.Removing still same from) (progress.Done (reply.Refused why)) how old new before after began then given on e runs = absurd (fall new.stopped on.4.fell.stopped runs)
 move_ended name uid target (move_stage.Owing owed copied) (move_stage.Owing still same) (progress.Done (reply.Refused why)) how old new before after began then given on e runs = absurd (fall new.stopped on.4.stopped runs)

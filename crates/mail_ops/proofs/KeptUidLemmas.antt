@@ -1,13 +1,11 @@
 -- What the source of a message that is added to a mailbox lists with its UID: an entry leaves no other message there.
 use Rattle.mail_ops.proofs.Common.{◌≡◌, ◌≤◌, ◌<◌, ◌==◌, ℕ, Bool, true, false, cond, List, [], ◌∷◌, Option, Some, refl, sym, ◌∙◌, ap, subst, arith, option_map, eqb-true, History, Faults, BoxEntry, MapEntry, BoxNo, MapUid, Uid, meanings_by, LogRow, BoxMeaning, row_at, box_applied, MapBox, MapMeaning}
-use Rattle.mail_ops.proofs.Common.{map_applied, meaning_numbered, KeepsUid, KeepsUids, StoreValue, indexes_of, NamesStay, names_stay_same, MapTook, AddsRow, RaisesRow, added_copy, raising_of, RemovesRow}
+use Rattle.mail_ops.proofs.Common.{map_applied, meaning_numbered, KeepsUid, KeepsUids, StoreValue, indexes_of, MapTook, AddsRow, RaisesRow, added_copy, raising_of, BoxTook}
 use Rattle.std.specs.Prelude.{max}
 use Rattle.std.specs.Option.{IfSome}
 use Rattle.mdbox_base.specs.declared.entries.BoxEntry.TheVariants as box_entry
 use Rattle.model_meaning.specs.MapMeaning.{numbers_of}
 use Rattle.store_core.specs.Value.{list_numbered}
-use Rattle.task_claims.proofs.NameLemmas.{names_stay}
-use Rattle.mail_ops.specs.Messages.{KeepsNamed}
 use Rattle.mail_ops.proofs.KeptRowLemmas.{KeepsRows, WasListed, addition_keeps, flagging_keeps, removal_keeps}
 
 -- ---- by number
@@ -82,14 +80,9 @@ logs_keep old new map_is indexes = logs_same old new (same_highest old.map new.m
 pub same_keeps : {D : Type 0} → (old new : StoreValue D) → new ≡ old → KeepsUids old new
 same_keeps old new same = subst (KeepsUids old) (sym same) (λ number uid held k. k)
 
--- ---- of the mailbox with a name
-
-pub named_keeps : {D : Type 0} → (name : List ℕ) (source uid held : ℕ) (old new : StoreValue D) → NamesStay old.map new.map → KeepsUids old new → KeepsNamed name source uid held old → KeepsNamed name source uid held new
-named_keeps name source uid held old new names uids k = record { named = names name source k.named; keeps = uids source uid held k.keeps }
-
 -- an append to a mailbox's log that failed
-pub fallen_keeps : {D : Type 0} → (name : List ℕ) (source uid held : ℕ) (old new : StoreValue D) → new.map ≡ old.map → indexes_of new.boxes ≡ indexes_of old.boxes → KeepsNamed name source uid held old → KeepsNamed name source uid held new
-fallen_keeps name source uid held old new map_is indexes k = named_keeps name source uid held old new (names_stay_same old.map new.map map_is) (logs_keep old new map_is indexes) k
+pub fallen_keeps : {D : Type 0} → (source uid held : ℕ) (old new : StoreValue D) → new.map ≡ old.map → indexes_of new.boxes ≡ indexes_of old.boxes → KeepsUid source uid held old → KeepsUid source uid held new
+fallen_keeps source uid held old new map_is indexes k = logs_keep old new map_is indexes source uid held k
 
 -- ---- of what an event does
 
@@ -103,17 +96,16 @@ pub took_keeps : {D : Type 0} → (e : MapEntry) (old new : StoreValue D) (befor
 took_keeps e old new before after began now t = logs_same old new (subst (λ (m : MapMeaning). old.map.highest.mailbox ≤ m.highest.mailbox) (sym t.taken) (highest_rises e old.map)) t.appends.mailboxes t.appends.indexes
 
 -- the message whose count was raised
-pub raised_source : {D : Type 0} → (name : List ℕ) (uid : Uid) (target : List ℕ) (held : MapUid) (source : BoxNo) (old new : StoreValue D) (before after : Option History) (began now : Faults) → RaisesRow name uid target held source old new before after began now → KeepsNamed name source.0 uid.0 held.0 new
-raised_source name uid target held source old new before after began now r =
-    named_keeps name source.0 uid.0 held.0 old new (names_stay old.map new.map r.took.appends.mailboxes) (took_keeps (raising_of held) old new before after began now r.took) (record { named = r.at.from.box.number_is ∙ ap Some r.source_is; keeps = r.keeps })
+pub raised_source : {D : Type 0} → (name : List ℕ) (uid : Uid) (target : List ℕ) (held : MapUid) (source : BoxNo) (old new : StoreValue D) (before after : Option History) (began now : Faults) → RaisesRow name uid target held source old new before after began now → KeepsUid source.0 uid.0 held.0 new
+raised_source name uid target held source old new before after began now r = took_keeps (raising_of held) old new before after began now r.took source.0 uid.0 held.0 r.keeps
 
-pub addition_left : {D : Type 0} → (name : List ℕ) (uid : Uid) (target : List ℕ) (held : MapUid) (given : Uid) (old new : StoreValue D) (before after : Option History) (began now : Faults) → AddsRow name uid target held given old new before after began now → KeepsUids old new
-addition_left name uid target held given old new before after began now r =
+pub addition_left : {D : Type 0} → (name : List ℕ) (uid : Uid) (target : List ℕ) (held : MapUid) (source : BoxNo) (given : Uid) (old new : StoreValue D) (before after : Option History) (began now : Faults) → AddsRow name uid target held source given old new before after began now → KeepsUids old new
+addition_left name uid target held source given old new before after began now r =
     entry_keeps r.number (added_copy given r.row) r.at.m old new r.took.appends.map r.took.taken r.at.to.numbered
     (addition_keeps given r.row.flags r.row.time r.row.size (record { 0 = r.row.map_uid }) (record { 0 = r.row.guid }) r.at.m r.at.next_is)
 
-pub removal_left : {D : Type 0} → (name : List ℕ) (uid : Uid) (owed : MapUid) (old new : StoreValue D) (before after : Option History) (began now : Faults) → RemovesRow name uid owed old new before after began now → KeepsUids old new
-removal_left name uid owed old new before after began now r = entry_keeps r.number (box_entry.R uid) r.there.m old new r.took.appends.map r.took.taken r.there.box.numbered (removal_keeps uid r.there.m)
+pub removal_left : {D : Type 0} → (number : ℕ) (uid : Uid) (m : BoxMeaning) (old new : StoreValue D) (before after : Option History) (began now : Faults) → list_numbered old number ≡ Some m → BoxTook number (box_entry.R uid) old new before after began now → KeepsUids old new
+removal_left number uid m old new before after began now numbered t = entry_keeps number (box_entry.R uid) m old new t.appends.map t.taken numbered (removal_keeps uid m)
 
 pub flags_left : {D : Type 0} → (number : ℕ) (uid : Uid) (flags : ℕ) (m : BoxMeaning) (old new : StoreValue D) → new.map ≡ old.map → indexes_of new.boxes ≡ meanings_by number (box_entry.F uid flags) old.map.boxes (indexes_of old.boxes) → list_numbered old number ≡ Some m → KeepsUids old new
 flags_left number uid flags m old new map_is taken numbered = entry_keeps number (box_entry.F uid flags) m old new map_is taken numbered (flagging_keeps uid flags m)

@@ -1,5 +1,5 @@
 -- The last event of a request, the part behind it, and what the request's events tell with one more.
-use Rattle.mail_ops.proofs.Common.{◌≡◌, ◌==◌, ℕ, Bool, true, false, cond, List, [], ◌∷◌, ◌++◌, Option, Some, None, refl, sym, ◌∙◌, ap, subst, arith, filter, flat_map, nat_lt, if◌then◌else◌, option_or, eq-eqb, nat_tests, common_steps, MapEntry, MapUid, Refusal, Reply, Request, equal_is, EventPart}
+use Rattle.mail_ops.proofs.Common.{◌≡◌, ◌≤◌, ◌==◌, ℕ, Bool, true, false, cond, List, [], ◌∷◌, ◌++◌, Option, Some, None, refl, sym, ◌∙◌, ap, subst, arith, filter, flat_map, nat_lt, if◌then◌else◌, option_or, eq-eqb, nat_tests, common_steps, MapEntry, MapUid, Refusal, Reply, Request, equal_is, EventPart}
 use Rattle.mail_ops.proofs.Common.{BoxAppend, RunEvent, Run, and_then, own_events, source_of, uid_copied, Around, last_refusal, next_part, own_more, EndsInPart}
 use Rattle.std.specs.Prelude.{fold}
 use Rattle.std.proofs.lemmas.Grind.{flat_map-append}
@@ -148,8 +148,9 @@ pub source_same : (place : ℕ) (run : Run) (event : RunEvent) → event.request
 source_same place run event own none =
     ap (fold begun_from 0) (own_more place run event (eq-eqb event.request place own)) ∙ (fold-append begun_from 0 (own_events place run) (event ∷ []) ∙ ap (λ (n : ℕ). if nat_lt 0 n then n else source_of place run) none)
 
-pub source_first : (place : ℕ) (run : Run) (event : RunEvent) → event.request ≡ place → own_events place run ≡ [] → source_of place (and_then run event) ≡ event.source
-source_first place run event own none = ap (fold begun_from 0) (own_more place run event (eq-eqb event.request place own) ∙ ap (λ (es : List RunEvent). es ++ event ∷ []) none) ∙ or_none event.source
+pub source_new : (place : ℕ) (run : Run) (event : RunEvent) (source : ℕ) → event.request ≡ place → 1 ≤ source → event.source ≡ source → source_of place (and_then run event) ≡ source
+source_new place run event source own some from =
+    ap (fold begun_from 0) (own_more place run event (eq-eqb event.request place own)) ∙ (fold-append begun_from 0 (own_events place run) (event ∷ []) ∙ (ap (λ (n : ℕ). if nat_lt 0 n then n else source_of place run) from ∙ or_last (source_of place run) source some))
   where
-    or_none : (n : ℕ) → (if nat_lt 0 n then n else 0) ≡ n
-    or_none n = grind (arith, common_steps, nat_tests)
+    or_last : (last n : ℕ) → 1 ≤ n → (if nat_lt 0 n then n else last) ≡ n
+    or_last last n s = grind (arith, common_steps, nat_tests, s)

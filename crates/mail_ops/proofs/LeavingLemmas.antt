@@ -1,7 +1,7 @@
 -- What each event of a copy, a move or an expunge leaves to the tasks beside it.
-use Rattle.mail_ops.proofs.Common.{◌≡◌, ◌≤◌, ◌+◌, ◌||◌, ◌==◌, ℕ, Bool, true, false, cond, List, [], ◌∷◌, Option, Some, refl, sym, ◌∙◌, ap, subst, arith, bytes_eq, option_map_or, eqb-true, History, Faults, BoxEntry, MapEntry, BoxNo, MapUid, Uid, Did, Progress, LogRow, BoxMeaning, MapMeaning}
-use Rattle.mail_ops.proofs.Common.{MapRecord, record_at, map_applied, meanings_by, refs_in, due_at, KeepsMail, KeepsUids, IsStore, StoreValue, indexes_of, no_claims, one_due, BoxTook, MapTook, lowering_of, copy_claims, expunge_claims, move_claims, CopiesOn, AddsRow, IsNotRaised, RaisesRow}
-use Rattle.mail_ops.proofs.Common.{added_copy, raising_of, ExpungesOn, RemovesRow, IsRowOf, MovesOn, CopyStage, NotDone, ExpungeStage, MoveStage, fall, names_stay_same}
+use Rattle.mail_ops.proofs.Common.{inl, ◌≡◌, ◌≤◌, ◌+◌, ◌||◌, ◌==◌, ℕ, Bool, true, false, cond, List, [], ◌∷◌, Option, Some, refl, sym, ◌∙◌, ap, subst, arith, bytes_eq, option_map_or, eqb-true, History, Faults, BoxEntry, MapEntry, BoxNo, MapUid, Uid, Did, Progress, LogRow, BoxMeaning, MapMeaning}
+use Rattle.mail_ops.proofs.Common.{MapRecord, record_at, map_applied, meanings_by, refs_in, due_at, KeepsMail, KeepsRest, KeepsUids, IsStore, StoreValue, indexes_of, no_claims, one_due, BoxTook, MapTook, lowering_of, copy_claims, expunge_claims, move_claims, CopiesOn, AddsRow, IsNotRaised, RaisesRow}
+use Rattle.mail_ops.proofs.Common.{added_copy, raising_of, ExpungesOn, MovesOn, CopyStage, NotDone, ExpungeStage, MoveStage, fall, names_stay_same}
 use Rattle.std.proofs.Common.{◌-◌}
 use Rattle.mdbox_base.specs.declared.entries.BoxEntry.TheVariants as box_entry
 use Rattle.mdbox_base.specs.declared.progress.Progress.TheVariants as progress
@@ -21,9 +21,12 @@ use Rattle.mail_ops.specs.declared.event.NotDone.TheVariants as not_done
 use Rattle.mail_ops.specs.declared.expunging.ExpungeStage.TheVariants as expunge_stage
 use Rattle.mail_ops.specs.declared.moving.MoveStage.TheVariants as move_stage
 use Rattle.mail_ops.proofs.OnlyLogsLemmas.{same_mail}
+use Rattle.store_core.specs.MadeLogs.{KeepsGone}
+use Rattle.task_claims.proofs.GoneLemmas.{gone_same, gone_stays}
+use Rattle.mail_ops.specs.Messages.{IsRowIn}
 use Rattle.task_claims.proofs.NameLemmas.{names_stay}
 use Rattle.mail_ops.proofs.KeptUidLemmas.{addition_left, highest_rises, removal_left, same_highest, took_keeps}
-use Rattle.mail_ops.proofs.MessageLemmas.{record_of_row}
+use Rattle.mail_ops.proofs.MessageLemmas.{record_in, row_in}
 use Rattle.mail_ops.proofs.UnlistedLemmas.{addition_lists, entry_refs, flag_lists, listed_counts, removal_lists}
 
 -- ---- records that no mailbox lists
@@ -32,12 +35,12 @@ some_record : (a b : MapRecord) → Some a ≡ Some b → a ≡ b
 some_record a b e = cc e
 
 -- a row of a mailbox has another record than one that isn't listed
-other_record : {D : Type 0} → (history : Option History) (store : StoreValue D) (name : List ℕ) (at number : ℕ) (row : LogRow) (uid : ℕ) (rec : MapRecord) → IsStore history store → IsRowOf name at store number row → record_at store.map uid ≡ Some rec → references_to store rec.guid ≡ 0 → row.map_uid ≡ uid → ⊥
-other_record history store name at number row uid rec is there found none same =
-    let r = record_of_row history store name at number row is there in
+other_record : {D : Type 0} → (history : Option History) (store : StoreValue D) (number at : ℕ) (row : LogRow) (uid : ℕ) (rec : MapRecord) → IsStore history store → IsRowIn number at store row → record_at store.map uid ≡ Some rec → references_to store rec.guid ≡ 0 → row.map_uid ≡ uid → ⊥
+other_record history store number at row uid rec is there found none same =
+    let r = record_in history store number at row is there in
     let e : r.entry ≡ rec = some_record r.entry rec (sym r.found ∙ (ap (λ (u : ℕ). record_at store.map u) same ∙ found)) in
     let g : row.guid ≡ rec.guid = sym r.guid_is ∙ ap (λ (x : MapRecord). x.guid) e in
-    let c = listed_counts rec.guid name at store.map.boxes (indexes_of store.boxes) there.m row there.box.named there.listed (text_yes row.guid rec.guid g) in
+    let c = listed_counts rec.guid number at store.map.boxes (indexes_of store.boxes) there.m row there.numbered there.listed (text_yes row.guid rec.guid g) in
     omega (arith, c, none)
 
 one_none : (a b : ℕ) → a ≡ 1 → b ≡ 0 → a ≡ b → ⊥
@@ -59,13 +62,16 @@ same_unlisted mine old new indexes dues = λ uid rec none found listed. (ap (λ 
 
 map_leaves : {D : Type 0} → (mine : Claims) (entry : MapEntry) (old new : StoreValue D) (before after : Option History) (began now : Faults) → MapTook entry old new before after began now → SameButCounts old.map (map_applied entry old.map) → RaisesNone old.map (map_applied entry old.map) → LeavesUnlisted mine old new → LeavesOthers mine old new before after
 map_leaves mine entry old new before after began now t same unraised unlisted =
-    rest_leaves mine old new before after t.appends.files (ap (λ (v : StoreValue _). v.instances) t.appends.rest) (mail_same before after t.mail) (subst (λ (m : MapMeaning). SameButCounts old.map m) (sym t.taken) same) (subst (λ (m : MapMeaning). RaisesNone old.map m) (sym t.taken) unraised) (subst (λ (m : MapMeaning). old.map.highest.mailbox ≤ m.highest.mailbox) (sym t.taken) (highest_rises entry old.map)) (names_stay old.map new.map t.appends.mailboxes) (took_keeps entry old new before after began now t) t.appends.room unlisted
+    let further = t.further in
+    let rises = subst (λ (m : MapMeaning). old.map.highest.mailbox ≤ m.highest.mailbox) (sym t.taken) (highest_rises entry old.map) in
+    rest_leaves mine old new before after t.appends.files (ap (λ (v : StoreValue _). v.instances) t.appends.rest) (mail_same before after t.mail) (subst (λ (m : MapMeaning). SameButCounts old.map m) (sym t.taken) same) (subst (λ (m : MapMeaning). RaisesNone old.map m) (sym t.taken) unraised) rises (omega (arith, further)) (inl (names_stay old.map new.map t.appends.mailboxes))
+    (gone_stays old new t.appends.mailboxes (ap (λ (v : StoreValue _). v.made) t.appends.rest) rises) (took_keeps entry old new before after began now t) t.appends.room unlisted
 
 raise_leaves : {D : Type 0} → (mine : Claims) (name : List ℕ) (uid : Uid) (target : List ℕ) (held : MapUid) (source : BoxNo) (old new : StoreValue D) (before after : Option History) (began now : Faults) → IsStore before old → RaisesRow name uid target held source old new before after began now → LeavesOthers mine old new before after
 raise_leaves mine name uid target held source old new before after began now is r =
     map_leaves mine (raising_of held) old new before after began now r.took (raised_same held old.map) (unraised_by held old.map r.took.fits)
     (same_unlisted mine old new r.took.appends.indexes (λ u none rec found listed.
-    r.took.due u ∙ due_other (held.0 == u) (due_at u old) (λ t. other_record before old name uid.0 r.at.source r.row u rec is r.at.from found listed (sym r.holds ∙ eqb-true held.0 u t))))
+    r.took.due u ∙ due_other (held.0 == u) (due_at u old) (λ t. other_record before old r.at.source uid.0 r.row u rec is (row_in name uid.0 old r.at.source r.row r.at.from) found listed (sym r.holds ∙ eqb-true held.0 u t))))
 
 lower_leaves : {D : Type 0} → (owed : MapUid) (old new : StoreValue D) (before after : Option History) (began now : Faults) (mine : Claims) → ((uid : ℕ) → mine (Due uid) ≡ one_due owed.0 uid) → MapTook (lowering_of owed) old new before after began now → LeavesOthers mine old new before after
 lower_leaves owed old new before after began now mine own t =
@@ -78,14 +84,19 @@ lower_leaves owed old new before after began now mine own t =
 
 -- ---- an entry of a mailbox's log
 
+-- the map stays, and the logs that were made
+gone_logs : {D : Type 0} → (old new : StoreValue D) → new.map ≡ old.map → KeepsRest old new → KeepsGone old new
+gone_logs old new map_is rest = gone_stays old new (ap (λ (m : MapMeaning). m.boxes) map_is) (ap (λ (v : StoreValue _). v.made) rest) (same_highest old.map new.map map_is)
+
 box_leaves : {D : Type 0} → (mine : Claims) (number : ℕ) (entry : BoxEntry) (old new : StoreValue D) (before after : Option History) (began now : Faults) → BoxTook number entry old new before after began now → KeepsUids old new → LeavesUnlisted mine old new → LeavesOthers mine old new before after
 box_leaves mine number entry old new before after began now t keeps unlisted =
-    rest_leaves mine old new before after t.appends.files (ap (λ (v : StoreValue _). v.instances) t.appends.rest) (mail_same before after t.mail) (same_map old.map new.map t.appends.map) (unraised_same old.map new.map (ap (λ (m : MapMeaning). m.records) t.appends.map)) (same_highest old.map new.map t.appends.map) (names_stay_same old.map new.map t.appends.map) keeps t.appends.room unlisted
+    rest_leaves mine old new before after t.appends.files (ap (λ (v : StoreValue _). v.instances) t.appends.rest) (mail_same before after t.mail) (same_map old.map new.map t.appends.map) (unraised_same old.map new.map (ap (λ (m : MapMeaning). m.records) t.appends.map)) (same_highest old.map new.map t.appends.map) t.appends.end (inl (names_stay_same old.map new.map t.appends.map))
+    (gone_logs old new t.appends.map t.appends.rest) keeps t.appends.room unlisted
 
-add_leaves : {D : Type 0} → (mine : Claims) (name : List ℕ) (uid : Uid) (target : List ℕ) (held : MapUid) (given : Uid) (old new : StoreValue D) (before after : Option History) (began now : Faults) → ((u : ℕ) → mine (Due u) ≡ one_due held.0 u)
-    → AddsRow name uid target held given old new before after began now → LeavesOthers mine old new before after
-add_leaves mine name uid target held given old new before after began now own r =
-    box_leaves mine r.number (added_copy given r.row) old new before after began now r.took (addition_left name uid target held given old new before after began now r)
+add_leaves : {D : Type 0} → (mine : Claims) (name : List ℕ) (uid : Uid) (target : List ℕ) (held : MapUid) (source : BoxNo) (given : Uid) (old new : StoreValue D) (before after : Option History) (began now : Faults) → ((u : ℕ) → mine (Due u) ≡ one_due held.0 u)
+    → AddsRow name uid target held source given old new before after began now → LeavesOthers mine old new before after
+add_leaves mine name uid target held source given old new before after began now own r =
+    box_leaves mine r.number (added_copy given r.row) old new before after began now r.took (addition_left name uid target held source given old new before after began now r)
     (λ u rec none found listed. (refs u rec listed, r.took.due r.at.m u r.at.to.numbered ∙ unadded (r.row.map_uid == u) (due_at u old) (ap (λ (k : ℕ). one_due k u) (sym r.holds) ∙ (sym (own u) ∙ none))))
   where
     unadded : (t : Bool) (n : ℕ) → bit t ≡ 0 → n - bit (t || false) ≡ n
@@ -94,7 +105,7 @@ add_leaves mine name uid target held given old new before after began now own r 
 
     by_guid : (rec : MapRecord) → references_to old rec.guid ≡ 0 → (t : Bool) → bytes_eq r.row.guid rec.guid ≡ t → references_to new rec.guid ≡ 0
     by_guid rec listed true e =
-        let c = listed_counts rec.guid name uid.0 old.map.boxes (indexes_of old.boxes) r.at.from.m r.row r.at.from.box.named r.at.from.listed e in
+        let c = listed_counts rec.guid r.at.source uid.0 old.map.boxes (indexes_of old.boxes) r.at.from.m r.row r.at.from.box.numbered r.at.from.listed e in
         absurd (omega (arith, c, listed))
     by_guid rec listed false e =
         none_more (references_to new rec.guid) (references_to old rec.guid)
@@ -104,21 +115,21 @@ add_leaves mine name uid target held given old new before after began now own r 
     refs : (u : ℕ) (rec : MapRecord) → references_to old rec.guid ≡ 0 → references_to new rec.guid ≡ 0
     refs u rec listed = by_guid rec listed (bytes_eq r.row.guid rec.guid) refl
 
-remove_leaves : {D : Type 0} → (mine : Claims) (name : List ℕ) (uid : Uid) (owed : MapUid) (old new : StoreValue D) (before after : Option History) (began now : Faults) → IsStore before old → RemovesRow name uid owed old new before after began now → LeavesOthers mine old new before after
-remove_leaves mine name uid owed old new before after began now is r =
-    box_leaves mine r.number (box_entry.R uid) old new before after began now r.took (removal_left name uid owed old new before after began now r)
+take_leaves : {D : Type 0} → (mine : Claims) (number : ℕ) (uid : Uid) (row : LogRow) (old new : StoreValue D) (before after : Option History) (began now : Faults) → IsStore before old → IsRowIn number uid.0 old row → BoxTook number (box_entry.R uid) old new before after began now → LeavesOthers mine old new before after
+take_leaves mine number uid row old new before after began now is there t =
+    box_leaves mine number (box_entry.R uid) old new before after began now t (removal_left number uid there.m old new before after began now there.numbered t)
     (λ u rec none found listed. (
       none_more (references_to new rec.guid) (references_to old rec.guid)
-          (subst (λ (ms : List BoxMeaning). refs_in ms rec.guid ≤ references_to old rec.guid) (sym r.took.taken) (entry_refs rec.guid r.number (box_entry.R uid) old.map.boxes (indexes_of old.boxes) (removal_lists rec.guid uid))) listed,
-      r.took.due r.there.m u r.there.box.numbered
-          ∙ (ap (λ (o : Option LogRow). option_map_or (λ row. more_due 1 row.map_uid (λ k. due_at k old)) o (λ k. due_at k old) u) r.there.listed ∙ due_other (r.row.map_uid == u) (due_at u old) (λ t. other_record before old name uid.0 r.number r.row u rec is r.there found listed (eqb-true r.row.map_uid u t))),
+          (subst (λ (ms : List BoxMeaning). refs_in ms rec.guid ≤ references_to old rec.guid) (sym t.taken) (entry_refs rec.guid number (box_entry.R uid) old.map.boxes (indexes_of old.boxes) (removal_lists rec.guid uid))) listed,
+      t.due there.m u there.numbered
+          ∙ (ap (λ (o : Option LogRow). option_map_or (λ r. more_due 1 r.map_uid (λ k. due_at k old)) o (λ k. due_at k old) u) there.listed ∙ due_other (row.map_uid == u) (due_at u old) (λ s. other_record before old number uid.0 row u rec is there found listed (eqb-true row.map_uid u s))),
     ))
 
 -- ---- nothing
 
 pub same_leaves : {D : Type 0} → (history : D → Option History) (mine : Claims) (old new : StoreValue D) → new ≡ old → LeavesOthers mine old new (history old.disk) (history new.disk)
 same_leaves history mine old new same = subst (λ (s : StoreValue _). LeavesOthers mine old s (history old.disk) (history s.disk)) (sym same)
-    (rest_leaves mine old old (history old.disk) (history old.disk) refl refl (mail_same (history old.disk) (history old.disk) (same_mail (history old.disk))) refl (unraised_same old.map old.map refl) (same_highest old.map old.map refl) (λ name number is. is) (λ number uid held k. k) (omega arith) (λ uid rec none found listed. (listed, refl)))
+    (rest_leaves mine old old (history old.disk) (history old.disk) refl refl (mail_same (history old.disk) (history old.disk) (same_mail (history old.disk))) refl (unraised_same old.map old.map refl) (same_highest old.map old.map refl) (omega arith) (inl (λ name number is. is)) (gone_same old) (λ number uid held k. k) (omega arith) (λ uid rec none found listed. (listed, refl)))
 
 unraised_leaves : {D : Type 0} → (history : D → Option History) (mine : Claims) (name : List ℕ) (uid : Uid) (target : List ℕ) (error : NotDone) (old new : StoreValue D) (began now : Faults) → new.stopped ≡ false → IsNotRaised name uid target error old new (history old.disk) (history new.disk) began now
     → LeavesOthers mine old new (history old.disk) (history new.disk)
@@ -135,9 +146,9 @@ unremoved_leaves history mine name uid not_done.Stopped old new began now runs r
 -- ---- flags
 
 pub flag_leaves : {D : Type 0} → (number : ℕ) (uid : Uid) (flags : ℕ) (old new : StoreValue D) (before after : Option History) → new.map ≡ old.map → new.files ≡ old.files → new.instances ≡ old.instances → indexes_of new.boxes ≡ meanings_by number (box_entry.F uid flags) old.map.boxes (indexes_of old.boxes)
-    → KeepsMail before after → KeepsUids old new → old.map_log.room ≤ new.map_log.room → ((other : ℕ) → due_at other new ≡ due_at other old) → LeavesOthers no_claims old new before after
-flag_leaves number uid flags old new before after map_is files instances taken mail keeps room due =
-    rest_leaves no_claims old new before after files instances (mail_same before after mail) (same_map old.map new.map map_is) (unraised_same old.map new.map (ap (λ (m : MapMeaning). m.records) map_is)) (same_highest old.map new.map map_is) (names_stay_same old.map new.map map_is) keeps room
+    → KeepsMail before after → KeepsUids old new → old.map_log.room ≤ new.map_log.room → new.made ≡ old.made → old.map_log.end ≤ new.map_log.end → ((other : ℕ) → due_at other new ≡ due_at other old) → LeavesOthers no_claims old new before after
+flag_leaves number uid flags old new before after map_is files instances taken mail keeps room made end due =
+    rest_leaves no_claims old new before after files instances (mail_same before after mail) (same_map old.map new.map map_is) (unraised_same old.map new.map (ap (λ (m : MapMeaning). m.records) map_is)) (same_highest old.map new.map map_is) end (inl (names_stay_same old.map new.map map_is)) (gone_stays old new (ap (λ (m : MapMeaning). m.boxes) map_is) made (same_highest old.map new.map map_is)) keeps room
     (λ other rec none found listed. (
       none_more (references_to new rec.guid) (references_to old rec.guid)
           (subst (λ (ms : List BoxMeaning). refs_in ms rec.guid ≤ references_to old rec.guid) (sym taken) (entry_refs rec.guid number (box_entry.F uid flags) old.map.boxes (indexes_of old.boxes) (flag_lists rec.guid uid flags))) listed,
@@ -150,16 +161,19 @@ pub copy_leaves : {D : Type 0} → (history : D → Option History) (name : List
     → CopiesOn name uid target now next answer how old new (history old.disk) (history new.disk) began faulted → LeavesOthers (copy_claims now) old new (history old.disk) (history new.disk)
 copy_leaves history name uid target copy_stage.First (copy_stage.Adding held source) progress.More how old new began faulted is runs on = raise_leaves (copy_claims copy_stage.First) name uid target held source old new (history old.disk) (history new.disk) began faulted is on.1
 copy_leaves history name uid target copy_stage.First copy_stage.First (progress.Done (reply.Refused why)) how old new began faulted is runs on = unraised_leaves history (copy_claims copy_stage.First) name uid target on.0 old new began faulted runs on.3
-copy_leaves history name uid target (copy_stage.Adding held source) copy_stage.First (progress.Done (reply.Copied given)) how old new began faulted is runs on = add_leaves (copy_claims (copy_stage.Adding held source)) name uid target held given old new (history old.disk) (history new.disk) began faulted (λ u. refl) on.1
+copy_leaves history name uid target (copy_stage.Adding held source) copy_stage.First (progress.Done (reply.Copied given)) how old new began faulted is runs on = add_leaves (copy_claims (copy_stage.Adding held source)) name uid target held source given old new (history old.disk) (history new.disk) began faulted (λ u. refl) on.1
 copy_leaves history name uid target (copy_stage.Adding held source) (copy_stage.Adding still same) (progress.Done (reply.Refused why)) how old new began faulted is runs on = absurd (fall new.stopped on.3.fell.stopped runs)
 copy_leaves history name uid target (copy_stage.Adding held source) (copy_stage.GivingBack still why) progress.More how old new began faulted is runs on = same_leaves history (copy_claims (copy_stage.Adding held source)) old new on.1
+copy_leaves history name uid target (copy_stage.Adding held source) (copy_stage.BeginningAgain still) progress.More how old new began faulted is runs on = same_leaves history (copy_claims (copy_stage.Adding held source)) old new on.2
+copy_leaves history name uid target (copy_stage.BeginningAgain held) copy_stage.First progress.More how old new began faulted is runs on = lower_leaves held old new (history old.disk) (history new.disk) began faulted (copy_claims (copy_stage.BeginningAgain held)) (λ u. refl) on.1
+copy_leaves history name uid target (copy_stage.BeginningAgain held) (copy_stage.BeginningAgain still) (progress.Done (reply.Refused why)) how old new began faulted is runs on = absurd (fall new.stopped on.3.stopped runs)
 copy_leaves history name uid target (copy_stage.GivingBack held why) copy_stage.First (progress.Done (reply.Refused given)) how old new began faulted is runs on = lower_leaves held old new (history old.disk) (history new.disk) began faulted (copy_claims (copy_stage.GivingBack held why)) (λ u. refl) on.2
 copy_leaves history name uid target (copy_stage.GivingBack held why) (copy_stage.GivingBack still cause) (progress.Done (reply.Refused given)) how old new began faulted is runs on = absurd (fall new.stopped on.4.stopped runs)
 copy_leaves history name uid target now next answer how old new began faulted is runs on = absurd on
 
 pub expunge_leaves : {D : Type 0} → (history : D → Option History) (name : List ℕ) (uid : Uid) (now next : ExpungeStage) (answer : Progress) (how : Did) (old new : StoreValue D) (began then : Faults) → IsStore (history old.disk) old → new.stopped ≡ false
     → ExpungesOn name uid now next answer how old new (history old.disk) (history new.disk) began then → LeavesOthers (expunge_claims now) old new (history old.disk) (history new.disk)
-expunge_leaves history name uid expunge_stage.First (expunge_stage.Owing owed) progress.More how old new began then is runs on = remove_leaves (expunge_claims expunge_stage.First) name uid owed old new (history old.disk) (history new.disk) began then is on.1
+expunge_leaves history name uid expunge_stage.First (expunge_stage.Owing owed) progress.More how old new began then is runs on = take_leaves (expunge_claims expunge_stage.First) on.1.number uid on.1.row old new (history old.disk) (history new.disk) began then is (row_in name uid.0 old on.1.number on.1.row on.1.there) on.1.took
 expunge_leaves history name uid expunge_stage.First expunge_stage.First (progress.Done (reply.Refused why)) how old new began then is runs on = unremoved_leaves history (expunge_claims expunge_stage.First) name uid on.0 old new began then runs on.3
 expunge_leaves history name uid (expunge_stage.Owing owed) expunge_stage.First (progress.Done reply.Done) how old new began then is runs on = lower_leaves owed old new (history old.disk) (history new.disk) began then (expunge_claims (expunge_stage.Owing owed)) (λ u. refl) on.1
 expunge_leaves history name uid (expunge_stage.Owing owed) (expunge_stage.Owing still) (progress.Done (reply.Refused why)) how old new began then is runs on = absurd (fall new.stopped on.3.stopped runs)
@@ -169,12 +183,15 @@ pub move_leaves : {D : Type 0} → (history : D → Option History) (name : List
     → MovesOn name uid target now next answer how old new (history old.disk) (history new.disk) began faulted → LeavesOthers (move_claims now) old new (history old.disk) (history new.disk)
 move_leaves history name uid target move_stage.First (move_stage.Adding held source) progress.More how old new began faulted is runs on = raise_leaves (move_claims move_stage.First) name uid target held source old new (history old.disk) (history new.disk) began faulted is on.1
 move_leaves history name uid target move_stage.First move_stage.First (progress.Done (reply.Refused why)) how old new began faulted is runs on = unraised_leaves history (move_claims move_stage.First) name uid target on.0 old new began faulted runs on.3
-move_leaves history name uid target (move_stage.Adding held source) (move_stage.Removing still copied from) progress.More how old new began faulted is runs on = add_leaves (move_claims (move_stage.Adding held source)) name uid target held copied old new (history old.disk) (history new.disk) began faulted (λ u. refl) on.2
+move_leaves history name uid target (move_stage.Adding held source) (move_stage.Removing still copied from) progress.More how old new began faulted is runs on = add_leaves (move_claims (move_stage.Adding held source)) name uid target held source copied old new (history old.disk) (history new.disk) began faulted (λ u. refl) on.2
 move_leaves history name uid target (move_stage.Adding held source) (move_stage.Adding still same) (progress.Done (reply.Refused why)) how old new began faulted is runs on = absurd (fall new.stopped on.3.fell.stopped runs)
 move_leaves history name uid target (move_stage.Adding held source) (move_stage.GivingBack still why) progress.More how old new began faulted is runs on = same_leaves history (move_claims (move_stage.Adding held source)) old new on.1
+move_leaves history name uid target (move_stage.Adding held source) (move_stage.BeginningAgain still) progress.More how old new began faulted is runs on = same_leaves history (move_claims (move_stage.Adding held source)) old new on.2
+move_leaves history name uid target (move_stage.BeginningAgain held) move_stage.First progress.More how old new began faulted is runs on = lower_leaves held old new (history old.disk) (history new.disk) began faulted (move_claims (move_stage.BeginningAgain held)) (λ u. refl) on.1
+move_leaves history name uid target (move_stage.BeginningAgain held) (move_stage.BeginningAgain still) (progress.Done (reply.Refused why)) how old new began faulted is runs on = absurd (fall new.stopped on.3.stopped runs)
 move_leaves history name uid target (move_stage.GivingBack held why) move_stage.First (progress.Done (reply.Refused given)) how old new began faulted is runs on = lower_leaves held old new (history old.disk) (history new.disk) began faulted (move_claims (move_stage.GivingBack held why)) (λ u. refl) on.2
 move_leaves history name uid target (move_stage.GivingBack held why) (move_stage.GivingBack still cause) (progress.Done (reply.Refused given)) how old new began faulted is runs on = absurd (fall new.stopped on.4.stopped runs)
-move_leaves history name uid target (move_stage.Removing held copied source) (move_stage.Owing owed same) progress.More how old new began faulted is runs on = remove_leaves (move_claims (move_stage.Removing held copied source)) name uid held old new (history old.disk) (history new.disk) began faulted is on.3
+move_leaves history name uid target (move_stage.Removing held copied source) (move_stage.Owing owed same) progress.More how old new began faulted is runs on = take_leaves (move_claims (move_stage.Removing held copied source)) source.0 uid on.3.row old new (history old.disk) (history new.disk) began faulted is on.3.there on.3.took
 move_leaves history name uid target (move_stage.Removing held copied source) move_stage.First (progress.Done (reply.Moved given gone)) how old new began faulted is runs on = same_leaves history (move_claims (move_stage.Removing held copied source)) old new on.3
 move_leaves history name uid target (move_stage.Removing held copied source) (move_stage.Removing still same from) (progress.Done (reply.Refused why)) how old new began faulted is runs on = absurd (fall new.stopped on.4.fell.stopped runs)
 move_leaves history name uid target (move_stage.Owing owed copied) move_stage.First (progress.Done (reply.Moved given gone)) how old new began faulted is runs on = lower_leaves owed old new (history old.disk) (history new.disk) began faulted (move_claims (move_stage.Owing owed copied)) (λ u. refl) on.3

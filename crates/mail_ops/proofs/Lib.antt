@@ -1,4 +1,6 @@
 pub mod Common
+pub mod ChangeCheckLemmas
+pub mod ChangeClaimLemmas
 pub mod CopyCallLemmas
 pub mod CopyFirstLemmas
 pub mod CopyLastLemmas
@@ -7,6 +9,10 @@ pub mod CopyPlaceLemmas
 pub mod CopyStepLemmas
 pub mod CountingLemmas
 pub mod CountsEventLemmas
+pub mod DeleteEventLemmas
+pub mod DeleteListLemmas
+pub mod DeleteStageLemmas
+pub mod DeleteStepLemmas
 pub mod EndedLemmas
 pub mod ExpungeEventLemmas
 pub mod ExpungeStepLemmas
@@ -26,6 +32,7 @@ pub mod MakeLogLemmas
 pub mod MakeNamedLemmas
 pub mod MakeStageLemmas
 pub mod MakeStepLemmas
+pub mod MapRoomLemmas
 pub mod MessageLemmas
 pub mod MoveEventLemmas
 pub mod MoveKnownLemmas
@@ -35,6 +42,8 @@ pub mod NamedListLemmas
 pub mod OnlyLogsLemmas
 pub mod ReadyLemmas
 pub mod RemovalLemmas
+pub mod RenameEventLemmas
+pub mod RenameStepLemmas
 pub mod RowLemmas
 pub mod ShownEntryLemmas
 pub mod StableLemmas

@@ -64,7 +64,7 @@ some_not : (m : BoxMeaning) → Some m ≡ None → ⊥
 some_not m e = cc e
 
 -- a name that isn't found is new, where each mailbox has its log
-name_is_new : (name : List ℕ) (store : List ℕ) (boxes : List MapBox) (open_boxes : List OpenBox) → AreBoxLogs store boxes open_boxes → meaning_named name boxes (indexes_of open_boxes) ≡ None → All (λ b. b.name ≢ name) boxes
+pub name_is_new : (name : List ℕ) (store : List ℕ) (boxes : List MapBox) (open_boxes : List OpenBox) → AreBoxLogs store boxes open_boxes → meaning_named name boxes (indexes_of open_boxes) ≡ None → All (λ b. b.name ≢ name) boxes
 name_is_new name store [] os logs none = All-nil (λ (b : MapBox). b.name ≢ name)
 name_is_new name store (b ∷ bs) [] logs none = absurd logs
 name_is_new name store (b ∷ bs) (o ∷ os) logs none = by_test (bytes_eq b.name name) refl none (λ k. name_is_new name store bs os logs.3 k)
@@ -76,7 +76,7 @@ name_is_new name store (b ∷ bs) (o ∷ os) logs none = by_test (bytes_eq b.nam
 first_free : (a b : Bool) → option_or (refused_where a refusal.Exists) (refused_where b (refusal.TooManyMailboxes 1024)) ≡ None → (a ≡ false) × (b ≡ false)
 first_free a b e = grind (arith, common_steps, nat_tests)
 
-not_there : (o : Option BoxMeaning) → is_some o ≡ false → o ≡ None
+pub not_there : (o : Option BoxMeaning) → is_some o ≡ false → o ≡ None
 not_there o e = grind (arith, common_steps, nat_tests)
 
 -- the entry fits

@@ -1,5 +1,5 @@
 -- What a make claims, and what its events leave to the tasks beside it.
-use Rattle.mail_ops.proofs.Common.{◌≡◌, ◌≤◌, ◌+◌, ◌==◌, ◌||◌, ℕ, Bool, true, false, not, cond, List, [], ◌∷◌, ◌++◌, map, Option, refl, sym, ◌∙◌, ap, subst, arith, common_steps, nat_tests, count_by, bytes_eq, eq-eqb, eqb-true, History, BoxNo, Progress, Reply, BoxMeaning, box_meaning, MapMeaning}
+use Rattle.mail_ops.proofs.Common.{◌≡◌, ◌≤◌, ◌+◌, ◌==◌, ◌||◌, ℕ, Bool, true, false, not, cond, List, [], ◌∷◌, ◌++◌, map, Option, refl, sym, ◌∙◌, ap, subst, arith, inl, ◌<◌, common_steps, nat_tests, count_by, bytes_eq, eq-eqb, eqb-true, History, BoxNo, Progress, Reply, BoxMeaning, box_meaning, MapMeaning}
 use Rattle.mail_ops.proofs.Common.{refs_in, Moves, amounts_in, KeepsUids, has_made_log, StoreValue, indexes_of, OpenBox, NamesStay, SyncsMail, names_stay_same, IsReadyToMake, MakeStage, fall}
 use Rattle.std.specs.List.{list_any}
 use Rattle.std.proofs.lemmas.List.Sums.{sum_by-append}
@@ -8,7 +8,7 @@ use Rattle.mdbox_base.specs.declared.progress.Progress.TheVariants as progress
 use Rattle.mdbox_base.specs.declared.replies.Reply.TheVariants as reply
 use Rattle.model_meaning.proofs.AppliedLemmas.{records_by_mailbox}
 use Rattle.store_core.specs.Dues.{no_amounts}
-use Rattle.store_core.specs.MadeLogs.{without_box}
+use Rattle.store_core.specs.MadeLogs.{KeepsGone, without_box}
 use Rattle.store_core.specs.Value.{references_to}
 use Rattle.task_claims.specs.Claims.{ClaimsNothing, Due, Emptied, Held, Made, MovesClaims, Pinned, PlacingPieces, Removing, Taken, amount_in, one_if}
 use Rattle.task_claims.specs.Leaving.{LeavesOthers, RaisesNone, SameButCounts, but_count}
@@ -101,31 +101,40 @@ pub record MakeChanges {D : Type 0} (now next : MakeStage) (old new : StoreValue
   pub same : SameButCounts old.map new.map
   pub unraised : RaisesNone old.map new.map
   pub mailboxes : old.map.highest.mailbox ≤ new.map.highest.mailbox
+  pub end : old.map_log.end ≤ new.map_log.end
   pub names : NamesStay old.map new.map
   pub room : old.map_log.room ≤ new.map_log.room
   pub refs : (guid : List ℕ) → references_to new guid ≡ references_to old guid
   pub logs : (number : ℕ) → one_if (has_made_log number new) + own_log_of now number ≡ one_if (has_made_log number old) + own_log_of next number
 
--- the same log has the same room
+-- the same log has the same room and end
 same_room : (a b : LogState) → b ≡ a → a.room ≤ b.room
 same_room a b same = subst (λ (l : LogState). a.room ≤ l.room) (sym same) (omega arith)
+
+same_end : (a b : LogState) → b ≡ a → a.end ≤ b.end
+same_end a b same = subst (λ (l : LogState). a.end ≤ l.end) (sym same) (omega arith)
 
 nothing_changed : {D : Type 0} → (now : MakeStage) (old new : StoreValue D) → new.map ≡ old.map → new.map_log ≡ old.map_log → new.boxes ≡ old.boxes → new.made ≡ old.made → MakeChanges now now old new
 nothing_changed now old new map_is log boxes made = record {
   same = same_map old.map new.map map_is;
   unraised = unraised_same old.map new.map (ap (λ (m : MapMeaning). m.records) map_is);
   mailboxes = same_highest old.map new.map map_is;
+  end = same_end old.map_log new.map_log log;
   names = names_stay_same old.map new.map map_is;
   room = same_room old.map_log new.map_log log;
   refs = λ guid. ap (λ (bs : List OpenBox). refs_in (indexes_of bs) guid) boxes;
   logs = λ number. ap (λ (bs : List OpenBox). one_if (list_any (HasNumber number) bs) + own_log_of now number) made;
 }
 
+risen : (a b : ℕ) → a < b → a ≤ b
+risen a b further = omega (arith, further)
+
 log_removed : {D : Type 0} → (number : BoxNo) (old new : StoreValue D) → new ≡ record old { disk = new.disk; made = without_box number.0 old.made } → has_made_log number.0 old ≡ true → MakeChanges (make_stage.Naming number) make_stage.First old new
 log_removed number old new same there = record {
   same = same_map old.map new.map (ap (λ (v : StoreValue _). v.map) same);
   unraised = unraised_same old.map new.map (ap (λ (v : StoreValue _). v.map.records) same);
   mailboxes = same_highest old.map new.map (ap (λ (v : StoreValue _). v.map) same);
+  end = same_end old.map_log new.map_log (ap (λ (v : StoreValue _). v.map_log) same);
   names = names_stay_same old.map new.map (ap (λ (v : StoreValue _). v.map) same);
   room = same_room old.map_log new.map_log (ap (λ (v : StoreValue _). v.map_log) same);
   refs = λ guid. ap (λ (v : StoreValue _). references_to v guid) same;
@@ -137,6 +146,7 @@ make_changes name make_stage.First (make_stage.Naming number) progress.More old 
   same = same_map old.map new.map (ap (λ (v : StoreValue _). v.map) a.1.same);
   unraised = unraised_same old.map new.map (ap (λ (v : StoreValue _). v.map.records) a.1.same);
   mailboxes = same_highest old.map new.map (ap (λ (v : StoreValue _). v.map) a.1.same);
+  end = same_end old.map_log new.map_log (ap (λ (v : StoreValue _). v.map_log) a.1.same);
   names = names_stay_same old.map new.map (ap (λ (v : StoreValue _). v.map) a.1.same);
   room = same_room old.map_log new.map_log (ap (λ (v : StoreValue _). v.map_log) a.1.same);
   refs = λ guid. ap (λ (v : StoreValue _). references_to v guid) a.1.same;
@@ -149,6 +159,7 @@ make_changes name (make_stage.Naming number) make_stage.First (progress.Done rep
   same = ap (λ (m : MapMeaning). map but_count m.records) a.2.map ∙ ap (map but_count) (records_by_mailbox number 1 name old.map.records);
   unraised = unraised_same old.map new.map (ap (λ (m : MapMeaning). m.records) a.2.map ∙ records_by_mailbox number 1 name old.map.records);
   mailboxes = subst (λ (m : MapMeaning). old.map.highest.mailbox ≤ m.highest.mailbox) (sym a.2.map) (highest_rises (map_entry.B number 1 name) old.map);
+  end = risen old.map_log.end new.map_log.end a.2.further;
   names = names_stay_named number 1 name old.map new.map a.2.map;
   room = a.2.room;
   refs = λ guid. ap (λ (ms : List BoxMeaning). refs_in ms guid) a.2.indexes ∙ refs_of_new (indexes_of old.boxes) guid;
@@ -174,10 +185,10 @@ make_moves now next old new c moves rest (Made number) = c.logs number
 same_due : (a b : ℕ) → a + 0 ≡ b + 0 → a ≡ b
 same_due a b e = omega (arith, e)
 
-pub make_leaves : {D : Type 0} → (now next : MakeStage) (old new : StoreValue D) (before after : Option History) → MakeChanges now next old new → Moves no_amounts no_amounts (amounts_in old) (amounts_in new) → KeepsAllButLogs old new → SyncsMail before after → KeepsUids old new
+pub make_leaves : {D : Type 0} → (now next : MakeStage) (old new : StoreValue D) (before after : Option History) → MakeChanges now next old new → Moves no_amounts no_amounts (amounts_in old) (amounts_in new) → KeepsAllButLogs old new → SyncsMail before after → KeepsUids old new → KeepsGone old new
     → LeavesOthers (make_claims now) old new before after
-make_leaves now next old new before after c moves rest mail keeps =
-    rest_leaves (make_claims now) old new before after (ap (λ (v : StoreValue _). v.files) rest) (ap (λ (v : StoreValue _). v.instances) rest) mail c.same c.unraised c.mailboxes c.names keeps c.room
+make_leaves now next old new before after c moves rest mail keeps gone =
+    rest_leaves (make_claims now) old new before after (ap (λ (v : StoreValue _). v.files) rest) (ap (λ (v : StoreValue _). v.instances) rest) mail c.same c.unraised c.mailboxes c.end (inl c.names) gone keeps c.room
     (λ uid rec none found listed. (c.refs rec.guid ∙ listed, same_due (amount_in (Due uid) new) (amount_in (Due uid) old) (moves.due uid)))
 
 -- a make that has no log of its own

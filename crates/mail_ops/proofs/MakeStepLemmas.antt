@@ -9,12 +9,13 @@ use Rattle.mdbox_base.specs.declared.replies.Refusal.TheVariants as refusal
 use Rattle.mdbox_base.specs.declared.replies.Reply.TheVariants as reply
 use Rattle.mdbox_base.specs.declared.script.Half.TheVariants as half
 use Rattle.store_core.specs.Dues.{no_amounts}
-use Rattle.store_core.specs.MadeLogs.{IsUnnamed, without_box}
+use Rattle.store_core.specs.MadeLogs.{IsUnnamed, KeepsGone, without_box}
+use Rattle.task_claims.proofs.GoneLemmas.{gone_created, gone_named, gone_removed, gone_same, gone_stays}
 use Rattle.mail_ops.specs.Making.{MakeValue, KeepsAllButLogs, make_left, RemovesLog, IsLogNotMade, MakeAnswers, same_lists, with_mailbox, FellIfStopped, MakesOn}
 use Rattle.mail_ops.specs.declared.event.NotDone.TheVariants as not_done
 use Rattle.mail_ops.specs.declared.making.MakeStage.TheVariants as stage
 use Rattle.mail_ops.proofs.OnlyLogsLemmas.{done_keeps, fell_keeps, idle_keeps, mail_named, spared_none, took_spares}
-use Rattle.mail_ops.proofs.KeptUidLemmas.{logs_keep, same_keeps}
+use Rattle.mail_ops.proofs.KeptUidLemmas.{logs_keep, same_highest, same_keeps}
 use Rattle.mail_ops.proofs.MakeCheckLemmas.{naming_steps, making_steps}
 use Rattle.mail_ops.proofs.MakeEventLemmas.{MakeClause, first_stopped, naming_stopped, making_refused, making_unremembered, making_fell, making_done, naming_refused, naming_unremembered, removing_fell, naming_overtaken}
 use Rattle.mail_ops.proofs.MakeLogLemmas.{made_there, naming_keeps}
@@ -28,6 +29,7 @@ pub record MakeKnown {D : Type 0} (name : List ℕ) (now next : MakeStage) (answ
   pub keeps : ChangesOnlyLogs (KeepsAllButLogs old new) now next answer old new before after began then
   pub moves : Moves no_amounts no_amounts (amounts_in old) (amounts_in new)
   pub uids : KeepsUids old new
+  pub gone : KeepsGone old new
   pub replies : MakeAnswers name now old new before after next answer
   pub left : answer ≡ progress.More → make_left next new < make_left now old
 
@@ -46,6 +48,9 @@ made_stopped e = let k : reply.Done ≡ reply.Refused refusal.Stopped = cc e in 
 
 -- ---- the first event
 
+above_drawn : (highest drawn number : ℕ) → highest ≤ drawn → number ≡ drawn + 1 → highest < number
+above_drawn highest drawn number l e = omega (arith, l, e)
+
 high_number : (highest drawn number : ℕ) → highest ≤ drawn → number ≡ drawn + 1 → nat_lt highest number ≡ true
 high_number highest drawn number l e = let k : highest < number = omega (arith, l, e) in grind (arith, common_steps, k)
 
@@ -60,6 +65,7 @@ known_made name number old new before after began then b m = record {
   keeps = done_keeps (KeepsAllButLogs old new) _ _ _ old new before after began then b.runs (ap (λ (s : StoreValue _). s.stopped) m.log.same ∙ b.runs) (more_is (reply.Refused refusal.Stopped)) m.disk.unfailed (rest_of m.log.same) (record { stays = m.disk.change.stays; left = λ same. mail_named number.0 before after m.others });
   moves = moves_as no_amounts (amounts_in old) (amounts_in new) (λ uid. due_as_before old new uid map_is (ap (λ (s : StoreValue _). s.dues) m.log.same));
   uids = logs_keep old new map_is (ap (λ (s : StoreValue _). indexes_of s.boxes) m.log.same);
+  gone = gone_created number.0 old new map_is (above_drawn old.map.highest.mailbox old.drawn.mailbox number.0 b.store_is.drawn.mailbox m.log.next) m.log.made;
   replies = (m.free, m.log, m.others);
   left = λ e. one_left (nat_lt new.map.highest.mailbox number.0) (ap (λ (s : StoreValue _). nat_lt s.map.highest.mailbox number.0) m.log.same ∙ high_number old.map.highest.mailbox old.drawn.mailbox number.0 b.store_is.drawn.mailbox m.log.next);
 }
@@ -79,6 +85,7 @@ known_refused name why store history faults b refuses = record {
   keeps = idle_keeps (KeepsAllButLogs store store) _ _ _ store history faults b.runs (λ e. step_runs why (making_steps name store why refuses) (why_is why refusal.Stopped e)) refl;
   moves = moves_as no_amounts (amounts_in store) (amounts_in store) (λ uid. refl);
   uids = same_keeps store store refl;
+  gone = gone_same store;
   replies = (not_done.Refused why, refl, (refl, refuses));
   left = λ e. absurd (done_more (reply.Refused why) e);
 }
@@ -92,6 +99,7 @@ known_unremembered name store history faults b free = record {
   keeps = done_keeps (KeepsAllButLogs store (with_drawn_box (store.drawn.mailbox + 1) store)) _ _ _ store (with_drawn_box (store.drawn.mailbox + 1) store) history history faults faults b.runs b.runs (λ e. memory_runs (why_is refusal.NoMemory refusal.Stopped e)) refl refl (spared_none (store.stopped ≡ store.stopped) history);
   moves = moves_as no_amounts (amounts_in store) (amounts_in store) (λ uid. refl);
   uids = logs_keep store (with_drawn_box (store.drawn.mailbox + 1) store) refl refl;
+  gone = gone_stays store (with_drawn_box (store.drawn.mailbox + 1) store) refl refl (omega arith);
   replies = (not_done.NoMemory, refl, (refl, free));
   left = λ e. absurd (done_more (reply.Refused refusal.NoMemory) e);
 }
@@ -105,6 +113,7 @@ known_fell name old new before after began then b n f = record {
   keeps = fell_keeps (KeepsAllButLogs old new) _ _ old new before after began then b.runs stops f.change.reads f.change.changes f.rose (rest_of n.0) f.change.stays;
   moves = moves_as no_amounts (amounts_in old) (amounts_in new) (λ uid. due_as_before old new uid (ap (λ (s : StoreValue _). s.map) n.0) (ap (λ (s : StoreValue _). s.dues) n.0));
   uids = logs_keep old new (ap (λ (s : StoreValue _). s.map) n.0) (ap (λ (s : StoreValue _). indexes_of s.boxes) n.0);
+  gone = gone_stays old new (ap (λ (s : StoreValue _). s.map.boxes) n.0) (ap (λ (s : StoreValue _). s.made) n.0) (same_highest old.map new.map (ap (λ (s : StoreValue _). s.map) n.0));
   replies = (not_done.Stopped, refl, n);
   left = λ e. absurd (done_more (reply.Refused refusal.Stopped) e);
 }
@@ -137,6 +146,7 @@ known_named name number old new before after began then b can n mail d = record 
   keeps = done_keeps (KeepsAllButLogs old new) _ _ _ old new before after began then b.runs (ap (λ (s : StoreValue _). s.stopped) n.same ∙ b.runs) made_stopped d.unfailed (rest_of n.same) (took_spares (new.stopped ≡ old.stopped) before after d.change.stays mail);
   moves = moves_as no_amounts (amounts_in old) (amounts_in new) (λ uid. named_due old new number name uid n);
   uids = naming_keeps before number name old new b.store_is can.above n;
+  gone = gone_named number name old new can.above n.map n.made;
   replies = (can.free, can.above, n, mail);
   left = λ e. absurd (done_more reply.Done e);
 }
@@ -148,6 +158,7 @@ known_named name number old new before after began then b can n mail d = record 
 pub record RemovedKnown {D : Type 0} (now : MakeStage) (old new : StoreValue D) (before after : Option History) : Type 0 where
   pub moves : Moves no_amounts no_amounts (amounts_in old) (amounts_in new)
   pub uids : KeepsUids old new
+  pub gone : KeepsGone old new
   pub rest : KeepsAllButLogs old new
   pub mail : SyncsMail before after
   pub runs : new.stopped ≡ old.stopped
@@ -156,6 +167,7 @@ removed_known : {D : Type 0} → (number : BoxNo) (old new : StoreValue D) (befo
 removed_known number old new before after began then r d = record {
   moves = moves_as no_amounts (amounts_in old) (amounts_in new) (λ uid. due_as_before old new uid map_is (ap (λ (s : StoreValue _). s.dues) r.same));
   uids = logs_keep old new map_is (ap (λ (s : StoreValue _). indexes_of s.boxes) r.same);
+  gone = gone_removed number.0 old new map_is (ap (λ (s : StoreValue _). s.made) r.same);
   rest = rest_of r.same;
   mail = mail_named number.0 before after r.others;
   runs = ap (λ (s : StoreValue _). s.stopped) r.same;
@@ -178,6 +190,7 @@ known_removed name number why how old new before after began then b r d running 
       keeps = done_keeps (KeepsAllButLogs old new) _ _ _ old new before after began then b.runs (k.runs ∙ b.runs) (λ e. running (why_is why refusal.Stopped e)) d.unfailed k.rest (record { stays = d.change.stays; left = λ same. k.mail });
       moves = k.moves;
       uids = k.uids;
+      gone = k.gone;
       replies = (r, cause);
       left = λ e. absurd (done_more (reply.Refused why) e);
     }
@@ -198,6 +211,7 @@ known_overtaken name number old new before after began then b free behind_it r d
       keeps = done_keeps (KeepsAllButLogs old new) _ _ _ old new before after began then b.runs (k.runs ∙ b.runs) (more_is (reply.Refused refusal.Stopped)) d.unfailed k.rest (record { stays = d.change.stays; left = λ same. k.mail });
       moves = k.moves;
       uids = k.uids;
+      gone = k.gone;
       replies = (free, behind_it, r);
       left = λ e. two_left (nat_lt old.map.highest.mailbox number.0) (not_above old.map.highest.mailbox number.0 behind_it);
     }
@@ -212,6 +226,7 @@ known_stopped name number how left old new before after began then b same f does
   keeps = fell_keeps (KeepsAllButLogs old new) _ _ old new before after began then b.runs stops f.change.reads f.change.changes f.rose (rest_of same) f.change.stays;
   moves = moves_as no_amounts (amounts_in old) (amounts_in new) (λ uid. due_as_before old new uid (ap (λ (s : StoreValue _). s.map) same) (ap (λ (s : StoreValue _). s.dues) same));
   uids = logs_keep old new (ap (λ (s : StoreValue _). s.map) same) (ap (λ (s : StoreValue _). indexes_of s.boxes) same);
+  gone = gone_stays old new (ap (λ (s : StoreValue _). s.map.boxes) same) (ap (λ (s : StoreValue _). s.made) same) (same_highest old.map new.map (ap (λ (s : StoreValue _). s.map) same));
   replies = (refl, refl, same);
   left = λ e. absurd (done_more (reply.Refused refusal.Stopped) e);
 }

@@ -1,6 +1,6 @@
 -- The message of a row, in the lists that a store shows, and the record that stores it.
 use Rattle.mail_ops.proofs.Common.{◌≡◌, ◌==◌, ℕ, Bool, true, false, cond, List, [], ◌∷◌, map, Option, Some, None, refl, sym, ◌∙◌, ap, subst, arith, inl, inr, common_steps, nat_tests, find, ◌⊎◌, is_some, if◌then◌else◌, option_map, option_map_or, bytes_eq, eq-eqb, History, BoxEntry, ListRow, Refusal}
-use Rattle.mail_ops.proofs.Common.{ListedMessage, Mailbox, Lists, AreWellFormed, listing_row, LogRow, BoxMeaning, box_meaning, row_at, MapRecord, MapBox, MapMeaning, map_meaning, record_at, record_of, equal_is, listed_row, ShowLists, meaning_named, Run, HasMailbox, HasUid, first_refusal}
+use Rattle.mail_ops.proofs.Common.{ListedMessage, Mailbox, Lists, AreWellFormed, listing_row, LogRow, BoxMeaning, box_meaning, row_at, MapRecord, MapBox, MapMeaning, map_meaning, record_at, record_of, equal_is, listed_row, ShowLists, meaning_named, meaning_numbered, Run, HasMailbox, HasUid, first_refusal}
 use Rattle.mail_ops.proofs.Common.{mailbox_named, message_in, IsStore, StoreValue, indexes_of, list_named, number_named, missing_message, IsRowOf}
 use Rattle.std.proofs.Common.{All}
 use Rattle.std.specs.Prelude.{option_and_then}
@@ -14,9 +14,11 @@ use Rattle.model_meaning.proofs.MapSoundLemmas.{map_sound}
 use Rattle.model_octets.proofs.SearchLemmas.{found_is, found_one, text_is, text_yes}
 use Rattle.model_store.specs.Opening.{HasItsRecord}
 use Rattle.model_store.specs.Stands.{StoresMessage, IsListed, AreListed, IsMailbox, AreMailboxes}
-use Rattle.list_machine.specs.Machine.{has_name, has_number, message_at, message_numbered}
+use Rattle.list_machine.specs.Machine.{message_at, message_numbered}
 use Rattle.mail_ops.proofs.FlagListLemmas.{numbered, found_row, none_there, some_there}
-use Rattle.mail_ops.proofs.NamedListLemmas.{ShownBox, ShowsBox, shows_box}
+use Rattle.store_core.specs.Value.{list_numbered}
+use Rattle.mail_ops.specs.Messages.{IsRowIn, row_numbered}
+use Rattle.mail_ops.proofs.NamedListLemmas.{ShownBox, ShowsBox, shows_box, ShownNumber, ShowsNumber, shows_number}
 
 -- ---- the message that a row shows
 
@@ -43,14 +45,33 @@ shown_row store name uid number row lists at h =
       same = n.2;
     }
 
--- The number that a name names is that of the mailbox which has the name.
-pub by_number : (name : List ℕ) (number uid : ℕ) (lists : Lists) (x : Mailbox) → AreWellFormed lists → mailbox_named name lists ≡ Some x → x.number ≡ number → message_numbered number uid lists ≡ message_at name uid lists
-by_number name number uid lists x well named is =
-    ap (option_and_then (message_in uid)) (found_is (has_number number) lists x (found_one (has_name name) lists x named).0 (eq-eqb x.number number is)
-    (λ i j d lt le p q. let less = well.numbers i j d lt le in omega (arith, less, equal_is _ number p, equal_is _ number q)) ∙ sym named)
-
 pub from_source : {D : Type 0} → (name : List ℕ) (source number at : ℕ) (store : StoreValue D) → number_named store.map name ≡ Some source → number_named store.map name ≡ Some number → at ≡ source → at ≡ number
 from_source name source number at store named known is = is ∙ (let k : Some source ≡ Some number = sym named ∙ known in cc k)
+
+-- ---- by the number of the mailbox
+
+pub record ShownIn (number uid : ℕ) (lists : Lists) (row : LogRow) : Type 0 where
+  pub message : ListedMessage
+  pub there : message_numbered number uid lists ≡ Some message
+  pub same : listed_row row ≡ listing_row message
+
+pub shown_in : {D : Type 0} → (store : StoreValue D) (number uid : ℕ) (row : LogRow) (lists : Lists) → IsRowIn number uid store row → ShowLists store.map.boxes (indexes_of store.boxes) lists → ShownIn number uid lists row
+shown_in store number uid row lists at h =
+    let f : ShownNumber number lists at.m = subst (ShowsNumber number lists) at.numbered (shows_number number store.map.boxes (indexes_of store.boxes) lists h) in
+    let n = some_there listing_row (message_in uid f.mailbox) (listed_row row) (sym (ap (option_map listed_row) at.listed) ∙ found_row uid at.m.rows f.mailbox.messages f.rows) in
+    record { message = n.0; there = ap (option_and_then (message_in uid)) f.numbered ∙ n.1; same = n.2 }
+
+-- one that isn't listed there isn't in the lists either
+pub none_in : {D : Type 0} → (store : StoreValue D) (number uid : ℕ) (lists : Lists) → row_numbered number uid store ≡ None → ShowLists store.map.boxes (indexes_of store.boxes) lists → message_numbered number uid lists ≡ None
+none_in store number uid lists none h = by_box (list_numbered store number) (shows_number number store.map.boxes (indexes_of store.boxes) lists h) none
+  where
+    by_box : (o : Option BoxMeaning) → ShowsNumber number lists o → option_and_then (λ m. row_at m uid) o ≡ None → message_numbered number uid lists ≡ None
+    by_box None f k = ap (option_and_then (message_in uid)) f
+    by_box (Some m) f k = ap (option_and_then (message_in uid)) f.numbered ∙ none_there listing_row (message_in uid f.mailbox) (sym (ap (option_map listed_row) k) ∙ found_row uid m.rows f.mailbox.messages f.rows)
+
+-- a row that is found by name is found by number
+pub row_in : {D : Type 0} → (name : List ℕ) (uid : ℕ) (store : StoreValue D) (number : ℕ) (row : LogRow) → IsRowOf name uid store number row → IsRowIn number uid store row
+row_in name uid store number row at = record { m = at.m; numbered = at.box.numbered; listed = at.listed }
 
 -- ---- why there is none
 
@@ -87,10 +108,6 @@ pub missing_refused : {D : Type 0} → (run : Run) (name : List ℕ) (uid : ℕ)
     → first_refusal run lists (HasMailbox name ∷ HasUid name uid ∷ []) ≡ Some why
 missing_refused run name uid store why lists h e = elim (missing_in name uid store why lists h e) [ inl m ↦ rw m.1 (ap Some (sym m.0)) | inr m ↦ rw (m.1.1, m.1.2) (ap Some (sym m.0)) ]
 
-pub missing_none : {D : Type 0} → (name : List ℕ) (uid : ℕ) (store : StoreValue D) (why : Refusal) (lists : Lists) → ShowLists store.map.boxes (indexes_of store.boxes) lists → missing_message name uid store ≡ Some why → message_at name uid lists ≡ None
-missing_none name uid store why lists h e =
-    elim (missing_in name uid store why lists h e) [ inl m ↦ ap (option_and_then (message_in uid)) m.1 | inr m ↦ ap (option_and_then (message_in uid)) m.1.1 ∙ m.1.2 ]
-
 -- ---- records
 
 pub store_is_sound : {D : Type 0} → (history : Option History) (store : StoreValue D) → IsStore history store → IsSoundMap store.map
@@ -102,16 +119,16 @@ by_guid m uid entry guid s found e =
     found_is (λ (r : MapRecord). bytes_eq r.guid guid) m.records entry (found_one (λ (r : MapRecord). r.uid == uid) m.records entry found).0 (text_yes entry.guid guid e)
     (λ i j d lt le p q. s.guids i j d lt le (text_is _ guid p ∙ sym (text_is _ guid q)))
 
-row_has_record : (map_is : MapMeaning) (name : List ℕ) (uid : ℕ) (boxes : List MapBox) (logs : List (List BoxEntry)) (m : BoxMeaning) (row : LogRow) → AllByRecursion (λ log. All (HasItsRecord map_is) (rows_after log)) logs
-    → meaning_named name boxes (map box_meaning logs) ≡ Some m → row_at m uid ≡ Some row → HasItsRecord map_is row
-row_has_record map_is name uid (b ∷ bs) (log ∷ logs) m row each is found = by_test (bytes_eq b.name name) is (λ e. row_has_record map_is name uid bs logs m row each.1 e found)
+row_has_record : (map_is : MapMeaning) (number uid : ℕ) (boxes : List MapBox) (logs : List (List BoxEntry)) (m : BoxMeaning) (row : LogRow) → AllByRecursion (λ log. All (HasItsRecord map_is) (rows_after log)) logs
+    → meaning_numbered number boxes (map box_meaning logs) ≡ Some m → row_at m uid ≡ Some row → HasItsRecord map_is row
+row_has_record map_is number uid (b ∷ bs) (log ∷ logs) m row each is found = by_test (b.number == number) is (λ e. row_has_record map_is number uid bs logs m row each.1 e found)
   where
-    by_test : (t : Bool) → cond t (Some (box_meaning log)) (meaning_named name bs (map box_meaning logs)) ≡ Some m → (meaning_named name bs (map box_meaning logs) ≡ Some m → HasItsRecord map_is row) → HasItsRecord map_is row
+    by_test : (t : Bool) → cond t (Some (box_meaning log)) (meaning_numbered number bs (map box_meaning logs)) ≡ Some m → (meaning_numbered number bs (map box_meaning logs) ≡ Some m → HasItsRecord map_is row) → HasItsRecord map_is row
     by_test true e rest =
         let same : box_meaning log ≡ m = cc e in
         All-contains (HasItsRecord map_is) (rows_after log) row each.0 (found_one (λ (r : LogRow). r.uid == uid) (rows_after log) row (ap (λ (k : BoxMeaning). row_at k uid) same ∙ found)).0
     by_test false e rest = rest e
-row_has_record map_is name uid boxes logs m row each is found = absurd (let k : None ≡ Some m = is in cc k)
+row_has_record map_is number uid boxes logs m row each is found = absurd (let k : None ≡ Some m = is in cc k)
 
 -- the record of a row
 pub record RecordOfRow (m : MapMeaning) (row : LogRow) : Type 0 where
@@ -121,10 +138,10 @@ pub record RecordOfRow (m : MapMeaning) (row : LogRow) : Type 0 where
   pub uid_is : entry.uid ≡ row.map_uid
   pub by_guid : (guid : List ℕ) → row.guid ≡ guid → record_of m guid ≡ Some entry
 
-pub record_of_row : {D : Type 0} → (history : Option History) (store : StoreValue D) (name : List ℕ) (uid number : ℕ) (row : LogRow) → IsStore history store → IsRowOf name uid store number row → RecordOfRow store.map row
-record_of_row history store name uid number row s at =
+pub record_in : {D : Type 0} → (history : Option History) (store : StoreValue D) (number uid : ℕ) (row : LogRow) → IsStore history store → IsRowIn number uid store row → RecordOfRow store.map row
+record_in history store number uid row s at =
     let h : HasItsRecord store.map row = subst (λ (map_is : MapMeaning). HasItsRecord map_is row) (sym s.map_is)
-    (row_has_record (map_meaning store.map.store s.entries) name uid store.map.boxes s.logs at.m row s.good.records (sym (ap (λ (ms : List BoxMeaning). meaning_named name store.map.boxes ms) s.boxes_are) ∙ at.box.named) at.listed) in
+    (row_has_record (map_meaning store.map.store s.entries) number uid store.map.boxes s.logs at.m row s.good.records (sym (ap (λ (ms : List BoxMeaning). meaning_numbered number store.map.boxes ms) s.boxes_are) ∙ at.numbered) at.listed) in
     record {
       entry = h.0;
       found = h.1;
@@ -132,6 +149,9 @@ record_of_row history store name uid number row s at =
       uid_is = equal_is h.0.uid row.map_uid (found_one (λ (r : MapRecord). r.uid == row.map_uid) store.map.records h.0 h.1).1;
       by_guid = λ guid e. by_guid store.map row.map_uid h.0 guid (store_is_sound history store s) h.1 (h.2 ∙ e);
     }
+
+pub record_of_row : {D : Type 0} → (history : Option History) (store : StoreValue D) (name : List ℕ) (uid number : ℕ) (row : LogRow) → IsStore history store → IsRowOf name uid store number row → RecordOfRow store.map row
+record_of_row history store name uid number row s at = record_in history store number uid row s (row_in name uid store number row at)
 
 -- the GUID of the message that a row shows
 pub shown_guid : (name : List ℕ) (uid number : ℕ) (lists : Lists) (row : LogRow) → (s : ShownRow name uid number lists row) → row.guid ≡ s.message.guid

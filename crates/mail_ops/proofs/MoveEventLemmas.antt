@@ -1,7 +1,7 @@
 -- The events of a move that a copy doesn't have, by the clause of a step.
-use Rattle.mail_ops.proofs.Common.{All-nil, ◌≡◌, ◌≤◌, ◌+◌, ℕ, Bool, true, false, List, [], ◌∷◌, ◌++◌, Option, Some, None, refl, sym, ◌∙◌, ap, subst, arith, inl, length, slice_get, ne_eqb, History, Faults, told_calls, MapUid, Uid, Refusal, Reply, ListedMessage, Lists, AreWellFormed, lists_by}
+use Rattle.mail_ops.proofs.Common.{All-nil, ◌≡◌, ◌≤◌, ◌+◌, ℕ, Bool, true, false, List, [], ◌∷◌, ◌++◌, Option, Some, None, refl, sym, ◌∙◌, ap, subst, arith, inl, length, slice_get, ne_eqb, History, Faults, told_calls, BoxNo, MapUid, Uid, ListRow, Refusal, Reply, ListedMessage, Lists, AreWellFormed, lists_by}
 use Rattle.mail_ops.proofs.Common.{meanings_by, LogRow, MapMeaning, record_of, no_numbers, ShowLists, IsSettledFor, Leaves, Last, GivesBack, RunEvent, event_of, Run, and_then, map_of, own_events, source_of, answers_well, halves_of, Around, is_elsewhere, last_refusal, own_other, due_at, IsStore}
-use Rattle.mail_ops.proofs.Common.{StoreValue, indexes_of, one_due, number_named, HasComeTo, IsKept, tells_itself, MapTook, MapFell, lowering_of, IsHolding, added_copy, AddsRow, RemovesRow, FellRemoving, IsRowOf, missing_message, seen_of, CanRefuse, did_fall, did_own, did_stop, ends_well, no_reply}
+use Rattle.mail_ops.proofs.Common.{StoreValue, indexes_of, one_due, number_named, HasComeTo, IsKept, tells_itself, MapTook, MapFell, lowering_of, IsHolding, added_copy, AddsRow, seen_of, CanRefuse, did_fall, did_own, did_stop, ends_well, no_reply}
 use Rattle.mail_ops.proofs.Common.{own_event, refuses, replied_so, some_reply, stands_by, stays_left, comes_along, never_more, mail_still, nothing}
 use Rattle.std.specs.Prelude.{is_none}
 use Rattle.mdbox_base.specs.declared.entries.BoxEntry.TheVariants as box_entry
@@ -14,17 +14,18 @@ use Rattle.list_machine.specs.Run.{SecondHalf}
 use Rattle.list_machine.specs.Machine.{add_message, expunge_from, message_numbered}
 use Rattle.journal.specs.Events.{RemovesIfThere, lowers}
 use Rattle.entry_steps.proofs.AppendListLemmas.{removed_from}
+use Rattle.mail_ops.specs.Messages.{IsRowIn, row_numbered}
 use Rattle.mail_ops.specs.MoveStages.{HasCopied, HasMoved}
+use Rattle.mail_ops.specs.Moving.{FellFrom, RemovesFrom}
 use Rattle.mail_ops.proofs.CopyFirstLemmas.{CopyingClause, place_free}
 use Rattle.mail_ops.proofs.CopyLastLemmas.{copy_known, adding, added_due, ended_due, is_copied, brings_copy, named_in, place_refuses, lowered_ends}
 use Rattle.mail_ops.proofs.CopyPartLemmas.{adds_next}
 use Rattle.mail_ops.proofs.FlagEventLemmas.{shown_on}
-use Rattle.mail_ops.proofs.FlagListLemmas.{shown_number}
 use Rattle.mail_ops.proofs.LastEventLemmas.{copied_by, copied_new, copied_still, ends_in, ends_still, held_by, held_same, last_before, source_by, source_same, unrefused_then}
 use Rattle.mail_ops.proofs.LoweringLemmas.{comes_with, lowered_due, shows_still, leads_still, one_fits}
-use Rattle.mail_ops.proofs.MessageLemmas.{RecordOfRow, by_number, from_source, missing_none, shown_guid}
+use Rattle.mail_ops.proofs.MessageLemmas.{RecordOfRow, none_in, record_in, shown_in}
 use Rattle.mail_ops.proofs.MovePartLemmas.{copied_ends, move_copies, removes_next, lowers_next}
-use Rattle.mail_ops.proofs.RemovalLemmas.{took_tells, brings_removal, box_tells, removal_due, box_fell_stays, map_fell_stays, removal_known}
+use Rattle.mail_ops.proofs.RemovalLemmas.{took_tells, brings_removal, box_tells, removal_due, box_fell_stays, map_fell_stays}
 use Rattle.mail_ops.proofs.ShownEntryLemmas.{shown_entry}
 use Rattle.mail_ops.proofs.ToldLemmas.{some_part}
 
@@ -33,25 +34,26 @@ moved_runs copied gone e = let k : reply.Moved copied gone ≡ reply.Refused ref
 
 -- ---- the message is added, and the request goes on
 
-pub move_added : {D : Type 0} → (name : List ℕ) (uid : Uid) (target : List ℕ) (held : MapUid) (copied : Uid) (source : ℕ) (old new : StoreValue D) (before after : Option History) (began faulted : Faults) → IsStore before old → old.stopped ≡ false → ((other : ℕ) → one_due held.0 other ≤ due_at other old) → number_named old.map name ≡ Some source
-    → AddsRow name uid target held copied old new before after began faulted → CopyingClause (request.Move name uid target) (IsHolding held source) (HasCopied held copied source) old new before after began faulted (did.Step half.CopyHalf) None
-move_added name uid target held copied source old new before after began faulted is ran due named r = λ around behind pins run lane place said lists come shows stood.
+pub move_added : {D : Type 0} → (name : List ℕ) (uid : Uid) (target : List ℕ) (held : MapUid) (copied : Uid) (source : BoxNo) (old new : StoreValue D) (before after : Option History) (began faulted : Faults) → IsStore before old → old.stopped ≡ false → ((other : ℕ) → one_due held.0 other ≤ due_at other old)
+    → AddsRow name uid target held source copied old new before after began faulted → CopyingClause (request.Move name uid target) (IsHolding held source.0) (HasCopied held copied source.0) old new before after began faulted (did.Step half.CopyHalf) None
+move_added name uid target held copied source old new before after began faulted is ran due r = λ around behind pins run lane place said lists come shows stood.
     let q = request.Move name uid target in
     let c = move_copies name uid target in
     let k = copy_known old name uid target r.row r.number copied lists r.at shows.0 shows.1 in
     let event : RunEvent = adding lane place k.mailbox k.shown.message held.0 None (told_calls after) in
     let a = r.took.appends in
+    let named : number_named old.map name ≡ Some source.0 = r.at.from.box.number_is ∙ ap Some r.source_is in
     let seen = seen_of pins old before began in
     let later = seen_of pins new after faulted in
-    let allowed = place_refuses run q name uid target half.CopyHalf old lists None c shows.1 (place_free name uid.0 target old r.row r.number copied.0 r.at) event in
+    let allowed = place_refuses run q name uid target half.CopyHalf false old lists None c shows.1 (place_free name uid.0 target old r.row r.number copied.0 r.at) event in
     let done = is_copied old name uid target r.row r.number copied lists k in
-    stands_by around behind run lane place said q lists seen later (did.Step half.CopyHalf) None event (Some (reply.Copied copied)) (HasCopied held copied source)
+    stands_by around behind run lane place said q lists seen later (did.Step half.CopyHalf) None event (Some (reply.Copied copied)) (HasCopied held copied source.0)
     (did_own around behind run lane place said q lists (add_message target k.shown.message lists) seen later (did.Step half.CopyHalf) None (Some (reply.Copied copied)) event
     (record {
       own = own_event event refl;
       finds = tt;
       found = tt;
-      part_is = adds_next around run q name uid target half.CopyHalf held source place said c stood (named_in pins run name source old before began come named);
+      part_is = adds_next around run q name uid target half.CopyHalf held source.0 place said c stood (named_in pins run name source.0 old before began come named);
       allowed = allowed;
       fits = All-nil _;
       did = (k.shown.message, k.shown.there, (k.mailbox, held.0, k.named, stood.held_is, refl));
@@ -97,20 +99,14 @@ removal_stopped name uid target held copied source Stands store history faults s
 
 -- ---- the message has gone
 
--- the mailbox with the number that the name names doesn't have it either
-gone_from : {D : Type 0} → (name : List ℕ) (uid source at : ℕ) (store : StoreValue D) (why : Refusal) (lists : Lists) → AreWellFormed lists → ShowLists store.map.boxes (indexes_of store.boxes) lists → number_named store.map name ≡ Some source → at ≡ source → missing_message name uid store ≡ Some why → message_numbered at uid lists ≡ None
-gone_from name uid source at store why lists well h named is missing =
-    let x = shown_number name source store.map.boxes (indexes_of store.boxes) lists h named in
-    ap (λ (n : ℕ). message_numbered n uid lists) is ∙ (by_number name source uid lists x.0 well x.1 x.2 ∙ missing_none name uid store why lists h missing)
-
 abbrev pub telling_gone : ℕ → ℕ → Uid → ℕ → RunEvent
 telling_gone lane place copied calls = record (event_of lane place SecondHalf calls) { reply = Some (reply.Moved copied true) }
 
-pub move_gone : {D : Type 0} → (name : List ℕ) (uid : Uid) (target : List ℕ) (held : MapUid) (copied : Uid) (source : ℕ) (Stands : Run → ℕ → List Reply → Type 0) (store : StoreValue D) (history : Option History) (faults : Faults) (why : Refusal) → store.stopped ≡ false → number_named store.map name ≡ Some source → missing_message name uid.0 store ≡ Some why
+pub move_gone : {D : Type 0} → (name : List ℕ) (uid : Uid) (target : List ℕ) (held : MapUid) (copied : Uid) (source : ℕ) (Stands : Run → ℕ → List Reply → Type 0) (store : StoreValue D) (history : Option History) (faults : Faults) → store.stopped ≡ false → row_numbered source uid.0 store ≡ None
     → CopyingClause (request.Move name uid target) (HasCopied held copied source) Stands store store history history faults faults (did.Step half.ExpungeHalf) (Some (reply.Moved copied true))
-move_gone name uid target held copied source Stands store history faults why runs named missing = λ around behind pins run lane place said lists come shows stood.
+move_gone name uid target held copied source Stands store history faults runs missing = λ around behind pins run lane place said lists come shows stood.
     let q = request.Move name uid target in
-    let none = gone_from name uid.0 source (source_of place run) store why lists shows.0 shows.1 named stood.source_is missing in
+    let none = ap (λ (n : ℕ). message_numbered n uid.0 lists) stood.source_is ∙ none_in store source uid.0 lists missing shows.1 in
     let event : RunEvent = telling_gone lane place copied (told_calls history) in
     let seen = seen_of pins store history faults in
     let ended = Some (reply.Moved copied true) in (
@@ -149,26 +145,27 @@ record LeavingKnown {D : Type 0} (store : StoreValue D) (uid : Uid) (number at :
   by : lists_by number [] (box_entry.R uid) lists ≡ expunge_from at uid.0 lists
   shows : ShowLists store.map.boxes (meanings_by number (box_entry.R uid) store.map.boxes (indexes_of store.boxes)) (expunge_from at uid.0 lists)
 
-leaving_known : {D : Type 0} → (pins : ℕ → ℕ) → (history : Option History) (faults : Faults) (store : StoreValue D) (name : List ℕ) (uid : Uid) (number at : ℕ) (row : LogRow) (lists : Lists) (run : Run) → IsStore history store → IsRowOf name uid.0 store number row → at ≡ number → AreWellFormed lists
+leaving_known : {D : Type 0} → (pins : ℕ → ℕ) → (history : Option History) (faults : Faults) (store : StoreValue D) (uid : Uid) (number at : ℕ) (row : LogRow) (lists : Lists) (run : Run) → IsStore history store → IsRowIn number uid.0 store row → at ≡ number → AreWellFormed lists
     → ShowLists store.map.boxes (indexes_of store.boxes) lists → HasComeTo run (seen_of pins store history faults) → LeavingKnown store uid number at row lists run
-leaving_known pins history faults store name uid number at row lists run is row_is same well h come =
-    let k = removal_known pins history faults store name uid number row lists run is row_is well h come in
+leaving_known pins history faults store uid number at row lists run is row_is same well h come =
+    let s = shown_in store number uid.0 row lists row_is h in
+    let r = record_in history store number uid.0 row is row_is in
     let by = removed_from lists number [] uid well ∙ ap (λ (n : ℕ). expunge_from n uid.0 lists) (sym same) in
     record {
-      recorded = k.recorded;
-      message = k.shown.message;
-      there = ap (λ (n : ℕ). message_numbered n uid.0 lists) same ∙ (by_number name number uid.0 lists k.shown.mailbox well k.shown.named k.shown.number_is ∙ k.shown.there);
-      is_record = ap (λ (m : MapMeaning). record_of m k.shown.message.guid) come.come.map_is ∙ k.recorded.by_guid k.shown.message.guid (shown_guid name uid.0 number lists row k.shown);
+      recorded = r;
+      message = s.message;
+      there = ap (λ (n : ℕ). message_numbered n uid.0 lists) same ∙ s.there;
+      is_record = ap (λ (m : MapMeaning). record_of m s.message.guid) come.come.map_is ∙ r.by_guid s.message.guid (ap (λ (x : ListRow). x.guid.0) s.same);
       by = by;
       shows = subst (λ (ls : Lists). ShowLists store.map.boxes (meanings_by number (box_entry.R uid) store.map.boxes (indexes_of store.boxes)) ls) by (shown_entry number [] (box_entry.R uid) store.map.boxes (indexes_of store.boxes) lists refl h);
     }
 
-pub move_removed : {D : Type 0} → (name : List ℕ) (uid : Uid) (target : List ℕ) (held : MapUid) (copied : Uid) (source : ℕ) (old new : StoreValue D) (before after : Option History) (began faulted : Faults) → IsStore before old → old.stopped ≡ false → number_named old.map name ≡ Some source → RemovesRow name uid held old new before after began faulted
-    → CopyingClause (request.Move name uid target) (HasCopied held copied source) (HasMoved uid held copied) old new before after began faulted (did.Step half.ExpungeHalf) None
-move_removed name uid target held copied source old new before after began faulted is ran named r = λ around behind pins run lane place said lists come shows stood.
+pub move_removed : {D : Type 0} → (name : List ℕ) (uid : Uid) (target : List ℕ) (held : MapUid) (copied : Uid) (source : BoxNo) (old new : StoreValue D) (before after : Option History) (began faulted : Faults) → IsStore before old → old.stopped ≡ false → RemovesFrom source uid held old new before after began faulted
+    → CopyingClause (request.Move name uid target) (HasCopied held copied source.0) (HasMoved uid held copied) old new before after began faulted (did.Step half.ExpungeHalf) None
+move_removed name uid target held copied source old new before after began faulted is ran r = λ around behind pins run lane place said lists come shows stood.
     let q = request.Move name uid target in
     let at = source_of place run in
-    let k = leaving_known pins before began old name uid r.number at r.row lists run is r.there (from_source name source r.number at old named r.there.box.number_is stood.source_is) shows.0 shows.1 come in
+    let k = leaving_known pins before began old uid source.0 at r.row lists run is r.there stood.source_is shows.0 shows.1 come in
     let event : RunEvent = taking_away lane place at uid k.recorded.entry.uid (told_calls after) in
     let a = r.took.appends in
     let seen = seen_of pins old before began in
@@ -180,7 +177,7 @@ move_removed name uid target held copied source old new before after began fault
       own = own_event event refl;
       finds = tt;
       found = tt;
-      part_is = removes_next around run name uid target held copied source place said stood;
+      part_is = removes_next around run name uid target held copied source.0 place said stood;
       allowed = refl;
       fits = All-nil _;
       did = subst (λ (o : Option ListedMessage). RemovesIfThere run at uid.0 event o) (sym k.there) (k.recorded.entry, k.is_record, refl);
@@ -188,8 +185,8 @@ move_removed name uid target held copied source old new before after began fault
       replied = tt;
     }) (record { made = refl; pins = refl; unpins = refl; doomed = refl; removed = refl; given = refl; placed = refl; gone = refl }) come (comes_along run event seen later come a.map a.drawn a.grows refl refl refl)
     (λ other. subst (λ (u : ℕ). due_at other new + 0 ≡ due_at other old + (0 + (0 + one_due u other))) (sym k.recorded.uid_is)
-    (taken_due (due_at other old) (due_at other new) r.row.map_uid other (removal_due old new r.there.m uid r.row other r.there.listed (r.took.due r.there.m other r.there.box.numbered))))
-    (box_tells pins r.number (box_entry.R uid) old new before after began faulted (λ runs. ran) a) (
+    (taken_due (due_at other old) (due_at other new) r.row.map_uid other (removal_due old new r.there.m uid r.row other r.there.listed (r.took.due r.there.m other r.there.numbered))))
+    (box_tells pins source.0 (box_entry.R uid) old new before after began faulted (λ runs. ran) a) (
       answers_well run lists q event (reply.Moved copied false) (expunge_from at uid.0 lists) shows.0 tt (refl, (stood.copied_is, (there, refl))),
       shown_on seen later _ (expunge_from at uid.0 lists) a.map r.took.taken k.shows,
     ) a.grows (a.stays old.map) refl ((refl, (stood.copied_is, (there, refl))), refl) (
@@ -212,17 +209,17 @@ move_removed name uid target held copied source old new before after began fault
       said_is = ap (λ (s : List Reply). s ++ reply.Moved copied false ∷ []) stood.said_is;
     })
 
-pub move_broken : {D : Type 0} → (name : List ℕ) (uid : Uid) (target : List ℕ) (held : MapUid) (copied : Uid) (source : ℕ) (Stands : Run → ℕ → List Reply → Type 0) (old new : StoreValue D) (before after : Option History) (began faulted : Faults) → IsStore before old → old.stopped ≡ false → number_named old.map name ≡ Some source → FellRemoving name uid old new before after began faulted
-    → CopyingClause (request.Move name uid target) (HasCopied held copied source) Stands old new before after began faulted (did.Broken half.ExpungeHalf) (Some (reply.Refused refusal.Stopped))
-move_broken name uid target held copied source Stands old new before after began faulted is ran named r = λ around behind pins run lane place said lists come shows stood.
+pub move_broken : {D : Type 0} → (name : List ℕ) (uid : Uid) (target : List ℕ) (held : MapUid) (copied : Uid) (source : BoxNo) (Stands : Run → ℕ → List Reply → Type 0) (old new : StoreValue D) (before after : Option History) (began faulted : Faults) → IsStore before old → old.stopped ≡ false → FellFrom source uid old new before after began faulted
+    → CopyingClause (request.Move name uid target) (HasCopied held copied source.0) Stands old new before after began faulted (did.Broken half.ExpungeHalf) (Some (reply.Refused refusal.Stopped))
+move_broken name uid target held copied source Stands old new before after began faulted is ran r = λ around behind pins run lane place said lists come shows stood.
     let q = request.Move name uid target in
     let at = source_of place run in
-    let k = leaving_known pins before began old name uid r.number at r.row lists run is r.there (from_source name source r.number at old named r.there.box.number_is stood.source_is) shows.0 shows.1 come in
+    let k = leaving_known pins before began old uid source.0 at r.row lists run is r.there stood.source_is shows.0 shows.1 come in
     let would : RunEvent = taking_away lane place at uid k.recorded.entry.uid (told_calls after) in
     let seen = seen_of pins old before began in
     let later = seen_of pins new after faulted in (
-      (did_fall around behind run lane place said q SecondHalf lists seen later (did.Broken half.ExpungeHalf) no_numbers (removes_stops around run place said name uid target held copied source stood)
-          (stays_left _ _ _ _ _ _ _ _ _ come (box_fell_stays pins r.number (box_entry.R uid) old new before after began faulted r.fell) (shows.0, shown_on seen later (indexes_of old.boxes) lists r.fell.appends.map r.fell.indexes shows.1)) ran r.fell.stopped r.fell.rose (λ event. inl refl) tt (
+      (did_fall around behind run lane place said q SecondHalf lists seen later (did.Broken half.ExpungeHalf) no_numbers (removes_stops around run place said name uid target held copied source.0 stood)
+          (stays_left _ _ _ _ _ _ _ _ _ come (box_fell_stays pins source.0 (box_entry.R uid) old new before after began faulted r.fell) (shows.0, shown_on seen later (indexes_of old.boxes) lists r.fell.appends.map r.fell.indexes shows.1)) ran r.fell.stopped r.fell.rose (λ event. inl refl) tt (
             record { refused = refl; unanswered = refl; ran = ran; stopped = r.fell.stopped },
             refl,
             (

@@ -1,5 +1,5 @@
 -- The parts of a move: its first half is that of a request that copies, and what stands behind it.
-use Rattle.mail_ops.proofs.Common.{◌≡◌, ◌||◌, ℕ, Bool, true, List, [], ◌∷◌, Option, Some, None, refl, ◌∙◌, ap, arith, common_steps, nat_tests, is_some, nat_lt, length, if◌then◌else◌, MapUid, Uid, Refusal, Reply, EventPart, Last, GivesBack, BoxAppend, Run, own_events, uid_copied, is_step, IsReplyOf}
+use Rattle.mail_ops.proofs.Common.{◌≡◌, ◌||◌, ℕ, Bool, true, false, List, [], ◌∷◌, Option, Some, None, refl, ◌∙◌, ap, arith, common_steps, nat_tests, is_some, nat_lt, length, if◌then◌else◌, MapUid, Uid, Refusal, Reply, EventPart, Last, GivesBack, BoxAppend, Run, own_events, uid_copied, is_step, IsReplyOf}
 use Rattle.mail_ops.proofs.Common.{Around, is_elsewhere, last_refusal, next_part, EndsInPart}
 use Rattle.mdbox_base.specs.declared.replies.Refusal.TheVariants as refusal
 use Rattle.mdbox_base.specs.declared.replies.Reply.TheVariants as reply
@@ -7,18 +7,24 @@ use Rattle.mdbox_base.specs.declared.requests.Request.TheVariants as request
 use Rattle.mdbox_base.specs.declared.script.Half.TheVariants as half
 use Rattle.list_machine.specs.Run.{SecondHalf}
 use Rattle.journal.specs.Events.{behind_copy, behind_move, behind_refused, ends_with_count}
+use Rattle.journal.specs.Journal.{half_of}
+use Rattle.mail_ops.specs.CopyStages.{adding_part}
 use Rattle.mail_ops.specs.MoveStages.{HasCopied, HasMoved}
-use Rattle.mail_ops.proofs.CopyPartLemmas.{IsCopying, adding_part}
+use Rattle.mail_ops.proofs.CopyPartLemmas.{IsCopying}
 use Rattle.mail_ops.proofs.LastEventLemmas.{next_behind}
 
-move_back : (name : List ℕ) (uid : Uid) (target : List ℕ) (why : Refusal) → (why ≡ refusal.Stopped → ⊥) → behind_refused (request.Move name uid target) Last why ≡ Some GivesBack
-move_back name uid target why other = grind (arith, common_steps, nat_tests)
+move_back : (name : List ℕ) (uid : Uid) (target : List ℕ) (elsewhere : Bool) (why : Refusal) → (why ≡ refusal.Stopped → ⊥) → behind_refused (request.Move name uid target) (adding_part elsewhere) why ≡ Some GivesBack
+move_back name uid target elsewhere why other = grind (arith, common_steps, nat_tests)
 
 move_replied : (name : List ℕ) (uid : Uid) (target : List ℕ) (why : Refusal) → is_step why ≡ true → IsReplyOf (request.Move name uid target) (reply.Refused why ∷ []) (reply.Refused why)
 move_replied name uid target why s = grind (arith, common_steps, nat_tests)
 
 move_stopped : (name : List ℕ) (uid : Uid) (target : List ℕ) (elsewhere : Bool) → behind_refused (request.Move name uid target) (adding_part elsewhere) refusal.Stopped ≡ None
 move_stopped name uid target elsewhere = grind (arith, common_steps, nat_tests)
+
+move_half : (name : List ℕ) (uid : Uid) (target : List ℕ) (elsewhere : Bool) → half_of (request.Move name uid target) (adding_part elsewhere) ≡ half.CopyHalf
+move_half name uid target true = refl
+move_half name uid target false = refl
 
 pub move_copies : (name : List ℕ) (uid : Uid) (target : List ℕ) → IsCopying (request.Move name uid target) name uid target half.CopyHalf
 move_copies name uid target = record {
@@ -27,22 +33,25 @@ move_copies name uid target = record {
   checks = λ run event part. refl;
   did_first = λ around run lists event d. d;
   did_last = λ around run lists event d. d;
+  did_over = λ around run lists event d. d;
   did_back = λ around run lists event d. d;
   behind_first = λ around run event e. ap (behind_move (is_elsewhere run event.request name) (ends_with_count run event.request) event) e;
+  behind_over = λ around run event e. ap (behind_move (is_elsewhere run event.request name) (ends_with_count run event.request) event) e;
   behind_back = λ around run event e. ap (behind_move (is_elsewhere run event.request name) (ends_with_count run event.request) event) e;
   refused_first = λ why. refl;
   refused_back = λ why. refl;
-  refused_last = move_back name uid target;
-  stopped_last = move_stopped name uid target;
+  refused_adding = move_back name uid target;
+  stopped_adding = move_stopped name uid target;
   memory_first = refl;
   memory_last = refl;
   in_range = tt;
   answers = λ run lists event given left allowed copied. (allowed, copied);
   steps_last = refl;
   steps_first = refl;
+  steps_over = refl;
   steps_back = refl;
   half_first = refl;
-  half_last = refl;
+  half_adding = move_half name uid target;
   halves = refl;
   replied = move_replied name uid target;
 }

@@ -11,13 +11,13 @@ use Rattle.mail_ops.proofs.ReadyLemmas.{moved_kept, source_kept}
 pub copy_stable : {D : Type 0} → (name : List ℕ) (uid : Uid) (now : CopyStage) → IsStable {D = D} (copy_claims now) (λ store history. IsReadyToCopy name uid now store)
 copy_stable name uid now old new before after b ready = record {
   due = λ other. due_left (copy_claims now) old new before after other b;
-  source = source_kept name uid now old new b.leaves.names b.leaves.uids ready.source;
+  source = source_kept name uid now old new b.leaves.uids ready.source;
 }
 
 pub move_stable : {D : Type 0} → (name : List ℕ) (uid : Uid) (now : MoveStage) → IsStable {D = D} (move_claims now) (λ store history. IsReadyToMove name uid now store)
 move_stable name uid now old new before after b ready = record {
   due = λ other. due_left (move_claims now) old new before after other b;
-  source = moved_kept name uid now old new b.leaves.names b.leaves.uids ready.source;
+  source = moved_kept name uid now old new b.leaves.uids ready.source;
 }
 
 pub expunge_stable : {D : Type 0} → (now : ExpungeStage) → IsStable {D = D} (expunge_claims now) (λ store history. AreDueIn store (expunge_amounts now))

@@ -1,6 +1,6 @@
 -- Messages that no mailbox lists stay unlisted.
 use Rattle.mail_ops.proofs.Common.{◌≡◌, ◌≤◌, ◌+◌, ◌==◌, ℕ, Bool, true, false, cond, not, List, [], ◌∷◌, ◌++◌, map, Some, None, refl, sym, ◌∙◌, ap, subst, arith, find, filter, count_by, bytes_eq, sum_by-cons, BoxEntry, MapUid, Uid, meanings_by, LogRow, BoxMeaning, row_at, row_changed, box_applied}
-use Rattle.mail_ops.proofs.Common.{MapBox, meaning_named, refs_in}
+use Rattle.mail_ops.proofs.Common.{MapBox, meaning_numbered, refs_in}
 use Rattle.std.proofs.lemmas.List.Sums.{sum_by-append}
 use Rattle.mdbox_base.specs.declared.entries.BoxEntry.TheVariants as box_entry
 use Rattle.mdbox_base.specs.declared.ids.Guid.{Guid}
@@ -79,13 +79,13 @@ row_counts guid uid (r ∷ rs) row there same = by_test (r.uid == uid) there (λ
         omega (arith, a)
     by_test false t rest = let a = counted guid r rs in let b = rest t in omega (arith, a, b)
 
-pub listed_counts : (guid name : List ℕ) (uid : ℕ) (boxes : List MapBox) (meanings : List BoxMeaning) (m : BoxMeaning) (row : LogRow) → meaning_named name boxes meanings ≡ Some m → row_at m uid ≡ Some row → has_guid guid row ≡ true → 1 ≤ refs_in meanings guid
-listed_counts guid name uid (b ∷ bs) (x ∷ xs) m row named there same = by_test (bytes_eq b.name name) named (λ n. listed_counts guid name uid bs xs m row n there same)
+pub listed_counts : (guid : List ℕ) (number uid : ℕ) (boxes : List MapBox) (meanings : List BoxMeaning) (m : BoxMeaning) (row : LogRow) → meaning_numbered number boxes meanings ≡ Some m → row_at m uid ≡ Some row → has_guid guid row ≡ true → 1 ≤ refs_in meanings guid
+listed_counts guid number uid (b ∷ bs) (x ∷ xs) m row numbered there same = by_test (b.number == number) numbered (λ n. listed_counts guid number uid bs xs m row n there same)
   where
-    by_test : (t : Bool) → cond t (Some x) (meaning_named name bs xs) ≡ Some m → (meaning_named name bs xs ≡ Some m → 1 ≤ refs_in xs guid) → 1 ≤ refs_in (x ∷ xs) guid
+    by_test : (t : Bool) → cond t (Some x) (meaning_numbered number bs xs) ≡ Some m → (meaning_numbered number bs xs ≡ Some m → 1 ≤ refs_in xs guid) → 1 ≤ refs_in (x ∷ xs) guid
     by_test true n rest =
         let k : x ≡ m = cc n in
         let c = row_counts guid uid x.rows row (subst (λ (y : BoxMeaning). row_at y uid ≡ Some row) (sym k) there) same in
         let a = refs_more guid x xs in omega (arith, a, c)
     by_test false n rest = let a = refs_more guid x xs in let c = rest n in omega (arith, a, c)
-listed_counts guid name uid boxes meanings m row named there same = absurd (let k : None ≡ Some m = named in cc k)
+listed_counts guid number uid boxes meanings m row numbered there same = absurd (let k : None ≡ Some m = numbered in cc k)

@@ -20,7 +20,7 @@ renaming_refusal name target store = option_or (deleting_refusal name store) (re
 -- ---- within the crate
 
 -- The mailbox with this name has this number, and isn't INBOX.
-pub record MayChange {D : Type 0} (name : List ℕ) (number : ℕ) (store : StoreValue D) : Type 0 where
+pub record MayChangeBox {D : Type 0} (name : List ℕ) (number : ℕ) (store : StoreValue D) : Type 0 where
   pub m : BoxMeaning
   pub box : IsBoxOf name store number m
   pub free : deleting_refusal name store ≡ None

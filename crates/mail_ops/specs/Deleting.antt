@@ -24,7 +24,7 @@ use Rattle.store_core.specs.Keeping.{KeepsMail, KeepsUids}
 use Rattle.store_core.specs.MadeLogs.{IsGone, KeepsGone}
 use Rattle.store_core.specs.Value.{StoreValue, indexes_of}
 use Rattle.task_steps.specs.Step.{HasNotBegun}
-use Rattle.mail_ops.specs.Changing.{MayChange, deleting_refusal}
+use Rattle.mail_ops.specs.Changing.{MayChangeBox, deleting_refusal}
 use Rattle.mail_ops.specs.DeleteStages.{HasDeleted}
 use Rattle.mail_ops.specs.Event.{refusal_told, told_as}
 use Rattle.mail_ops.specs.Making.{FellChanging, HasChangedDisk, IsStoppedSo, same_lists}
@@ -60,7 +60,7 @@ delete_left (stage.RemovingLog number generation) = 1
 -- means: the count of each record falls by as much as the mailbox lists of it. What is due stays, and nothing else of the store has changed
 -- but the map log, which has grown, and has no less room.
 pub record DeletesBox {D : Type 0} (name : List ℕ) (number : BoxNo) (generation : ℕ) (old new : StoreValue D) : Type 0 where
-  pub box : MayChange name number.0 old
+  pub box : MayChangeBox name number.0 old
   pub log : HasMapBox old.map number.0 (λ box. box.generation ≡ generation)
   pub amounts : List MapCount
   pub counts : AreAmounts number amounts old
@@ -105,24 +105,24 @@ pub record DeletedSo {D : Type 0} (name : List ℕ) (number : BoxNo) (generation
 -- The append failed.
 pub record FellDeleting {D : Type 0} (name : List ℕ) (old new : StoreValue D) (before after : Option History) (began now : Faults) : Type 0 where
   pub number : BoxNo
-  pub box : MayChange name number.0 old
+  pub box : MayChangeBox name number.0 old
   pub amounts : List MapCount
   pub counts : AreAmounts number amounts old
   pub same : IsStoppedSo old new
   pub fell : FellChanging (lists_without number.0) before after began now
 
 -- why it wasn't removed
-abbrev pub IsNotDeleted : {D : Type 0} → List ℕ → NotDone → StoreValue D → StoreValue D → Option History → Option History → Faults → Faults → Type 0
-IsNotDeleted name (not_done.Refused why) old new before after began now = (new ≡ old) × (deleting_refusal name old ≡ Some why)
-IsNotDeleted name not_done.NoMemory old new before after began now = (new ≡ old) × (deleting_refusal name old ≡ None)
-IsNotDeleted name not_done.Stopped old new before after began now = FellDeleting name old new before after began now
+abbrev pub IsBoxNotDeleted : {D : Type 0} → List ℕ → NotDone → StoreValue D → StoreValue D → Option History → Option History → Faults → Faults → Type 0
+IsBoxNotDeleted name (not_done.Refused why) old new before after began now = (new ≡ old) × (deleting_refusal name old ≡ Some why)
+IsBoxNotDeleted name not_done.NoMemory old new before after began now = (new ≡ old) × (deleting_refusal name old ≡ None)
+IsBoxNotDeleted name not_done.Stopped old new before after began now = FellDeleting name old new before after began now
 
 -- What an event does, of a store that isn't stopped: from one stage to another, with this answer.
 abbrev pub DeletesOn : {D : Type 0} → List ℕ → DeleteStage → DeleteStage → Progress → Did → StoreValue D → StoreValue D → Option History → Option History → Faults → Faults → Type 0
 DeletesOn name stage.First (stage.RemovingLog number generation) progress.More how old new before after began now =
     (how ≡ did.Step half.Whole) × DeletedSo name number generation old new before after began now
 DeletesOn name stage.First stage.First (progress.Done (reply.Refused why)) how old new before after began now =
-    (e : NotDone) × (why ≡ refusal_told e) × (how ≡ told_as half.Whole (did.Broken half.Whole) e) × IsNotDeleted name e old new before after began now
+    (e : NotDone) × (why ≡ refusal_told e) × (how ≡ told_as half.Whole (did.Broken half.Whole) e) × IsBoxNotDeleted name e old new before after began now
 DeletesOn name (stage.RemovingLog number generation) stage.First (progress.Done reply.Done) how old new before after began now =
     (how ≡ did.Quiet) × RemovesBoxLog number.0 generation old new before after × HasChangedDisk same_lists before after began now
 DeletesOn name (stage.RemovingLog number generation) (stage.RemovingLog still same) (progress.Done (reply.Refused why)) how old new before after began now =

@@ -15,7 +15,7 @@ use Rattle.model_meaning.specs.MapMeaning.{map_applied}
 use Rattle.store_core.specs.Keeping.{KeepsMail, KeepsUids}
 use Rattle.store_core.specs.MadeLogs.{KeepsGone}
 use Rattle.store_core.specs.Value.{StoreValue}
-use Rattle.mail_ops.specs.Changing.{MayChange, renaming_refusal}
+use Rattle.mail_ops.specs.Changing.{MayChangeBox, renaming_refusal}
 use Rattle.mail_ops.specs.Event.{refusal_told, told_as}
 use Rattle.mail_ops.specs.Making.{FellChanging, HasChangedDisk, IsStoppedSo}
 use Rattle.mail_ops.specs.declared.event.NotDone.{NotDone}
@@ -31,7 +31,7 @@ pub record RenameValue : Type 0 where
 -- and has no less room.
 pub record RenamesBox {D : Type 0} (name target : List ℕ) (old new : StoreValue D) : Type 0 where
   pub number : BoxNo
-  pub box : MayChange name number.0 old
+  pub box : MayChangeBox name number.0 old
   pub map : new.map ≡ map_applied (map_entry.V number target) old.map
   pub room : old.map_log.room ≤ new.map_log.room
   pub further : old.map_log.end < new.map_log.end
@@ -65,19 +65,19 @@ pub record RenamedSo {D : Type 0} (name target : List ℕ) (old new : StoreValue
 pub record FellRenaming {D : Type 0} (name target : List ℕ) (old new : StoreValue D) (before after : Option History) (began now : Faults) : Type 0 where
   pub free : renaming_refusal name target old ≡ None
   pub number : BoxNo
-  pub box : MayChange name number.0 old
+  pub box : MayChangeBox name number.0 old
   pub same : IsStoppedSo old new
   pub fell : FellChanging (with_name number target) before after began now
 
 -- why it wasn't renamed
-abbrev pub IsNotRenamed : {D : Type 0} → List ℕ → List ℕ → NotDone → StoreValue D → StoreValue D → Option History → Option History → Faults → Faults → Type 0
-IsNotRenamed name target (not_done.Refused why) old new before after began now = (new ≡ old) × (renaming_refusal name target old ≡ Some why)
-IsNotRenamed name target not_done.NoMemory old new before after began now = (new ≡ old) × (renaming_refusal name target old ≡ None)
-IsNotRenamed name target not_done.Stopped old new before after began now = FellRenaming name target old new before after began now
+abbrev pub IsBoxNotRenamed : {D : Type 0} → List ℕ → List ℕ → NotDone → StoreValue D → StoreValue D → Option History → Option History → Faults → Faults → Type 0
+IsBoxNotRenamed name target (not_done.Refused why) old new before after began now = (new ≡ old) × (renaming_refusal name target old ≡ Some why)
+IsBoxNotRenamed name target not_done.NoMemory old new before after began now = (new ≡ old) × (renaming_refusal name target old ≡ None)
+IsBoxNotRenamed name target not_done.Stopped old new before after began now = FellRenaming name target old new before after began now
 
 -- What the event does, of a store that isn't stopped, with this answer.
 abbrev pub RenamesOn : {D : Type 0} → List ℕ → List ℕ → Reply → Did → StoreValue D → StoreValue D → Option History → Option History → Faults → Faults → Type 0
 RenamesOn name target reply.Done how old new before after began now = (how ≡ did.Step half.Whole) × RenamedSo name target old new before after began now
 RenamesOn name target (reply.Refused why) how old new before after began now =
-    (e : NotDone) × (why ≡ refusal_told e) × (how ≡ told_as half.Whole (did.Broken half.Whole) e) × IsNotRenamed name target e old new before after began now
+    (e : NotDone) × (why ≡ refusal_told e) × (how ≡ told_as half.Whole (did.Broken half.Whole) e) × IsBoxNotRenamed name target e old new before after began now
 RenamesOn name target other how old new before after began now = ⊥

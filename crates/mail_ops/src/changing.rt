@@ -1,6 +1,6 @@
 // Which mailbox may be deleted or renamed.
 ghost use Rattle.std.specs.Prelude.{◌≡◌, Some, IfOk, IfErr};
-ghost use Rattle.mail_ops.specs.Changing.{MayChange, deleting_refusal};
+ghost use Rattle.mail_ops.specs.Changing.{MayChangeBox, deleting_refusal};
 
 use disk_model::Disk;
 use mdbox_base::{BoxNo, Name, Refusal};
@@ -11,7 +11,7 @@ const INBOX: &[u8] = b"INBOX";
 
 /// The number of the mailbox with this name, if that may be deleted or renamed: it isn't INBOX.
 pub(crate) fn may_change<D: Disk>(store: &Store<D>, name: &Name) -> Result<BoxNo, Refusal>
-    ensures found { IfOk result (λ number. MayChange name.now number.0 store.now) }
+    ensures found { IfOk result (λ number. MayChangeBox name.now number.0 store.now) }
     ensures refused { IfErr result (λ why. deleting_refusal name.now store.now ≡ Some why) }
 {
     let Some(_index) = store.list_of(name) else {

@@ -9,7 +9,7 @@ ghost use Rattle.store_core.specs.MadeLogs.{IsGone};
 ghost use Rattle.task_steps.specs.Step.{Steps, ended_by};
 ghost use Rattle.task_claims.specs.Claims.{no_claims};
 ghost use Rattle.task_claims.specs.Stable.{MovesOwnClaims};
-ghost use Rattle.mail_ops.specs.Deleting.{DeleteAnswers, DeletedSo, DeletesOn, IsAtDelete, IsNotDeleted, IsReadyToDelete, RemovesBoxLog, delete_left};
+ghost use Rattle.mail_ops.specs.Deleting.{DeleteAnswers, DeletedSo, DeletesOn, IsAtDelete, IsBoxNotDeleted, IsReadyToDelete, RemovesBoxLog, delete_left};
 ghost use Rattle.mail_ops.specs.Making.{FellChanging, HasChangedDisk, IsStoppedSo, same_lists};
 ghost use Rattle.mail_ops.specs.OnlyLogs.{ChangesOnlyLogs};
 ghost use Rattle.store_seen.specs.Seeing.{seen_of};
@@ -142,7 +142,7 @@ fn next_event<D: Disk>(
 fn delete<D: Disk>(store: &mut Store<D>, name: &Name) -> Result<(BoxNo, u32), NotDone>
     requires { store.old.stopped ≡ false }
     ensures deleted { IfOk result (λ log. DeletedSo name.now log.0 log.1 store.old store.new (D.history store.old.disk) (D.history store.new.disk) (D.faults store.old.disk) (D.faults store.new.disk)) }
-    ensures refused { IfErr result (λ error. IsNotDeleted name.now error store.old store.new (D.history store.old.disk) (D.history store.new.disk) (D.faults store.old.disk) (D.faults store.new.disk)) }
+    ensures refused { IfErr result (λ error. IsBoxNotDeleted name.now error store.old store.new (D.history store.old.disk) (D.history store.new.disk) (D.faults store.old.disk) (D.faults store.new.disk)) }
 {
     store.facts();
     let number = may_change(store, name)?;

@@ -9,9 +9,9 @@ ghost use Rattle.store_core.specs.Keeping.{KeepsRest};
 ghost use Rattle.task_steps.specs.Step.{HasNotBegun, Steps, ended_by};
 ghost use Rattle.task_claims.specs.Claims.{no_claims};
 ghost use Rattle.task_claims.specs.Stable.{MovesOwnClaims};
-ghost use Rattle.mail_ops.specs.Changing.{MayChange, renaming_refusal};
+ghost use Rattle.mail_ops.specs.Changing.{MayChangeBox, renaming_refusal};
 ghost use Rattle.mail_ops.specs.OnlyLogs.{ChangesOnlyLogs};
-ghost use Rattle.mail_ops.specs.Renaming.{IsNotRenamed, RenameAnswers, RenamedSo, RenamesOn};
+ghost use Rattle.mail_ops.specs.Renaming.{IsBoxNotRenamed, RenameAnswers, RenamedSo, RenamesOn};
 ghost use Rattle.mail_ops.specs.declared.task.TaskStage.TheVariants as stage;
 ghost use Rattle.store_seen.specs.Seeing.{seen_of};
 
@@ -101,7 +101,7 @@ fn only_event<D: Disk>(store: &mut Store<D>, name: &Name, target: &Name) -> (Rep
 
 /// The number of the mailbox with this name, if that may get the other name: it isn't INBOX, and no mailbox has the other.
 fn may_rename<D: Disk>(store: &Store<D>, name: &Name, target: &Name) -> Result<BoxNo, Refusal>
-    ensures found { IfOk result (λ number. MayChange name.now number.0 store.now) }
+    ensures found { IfOk result (λ number. MayChangeBox name.now number.0 store.now) }
     ensures free { OnOk result (renaming_refusal name.now target.now store.now ≡ None) }
     ensures refused { IfErr result (λ why. renaming_refusal name.now target.now store.now ≡ Some why) }
 {
@@ -116,7 +116,7 @@ fn may_rename<D: Disk>(store: &Store<D>, name: &Name, target: &Name) -> Result<B
 fn rename<D: Disk>(store: &mut Store<D>, name: &Name, target: &Name) -> Result<(), NotDone>
     requires { store.old.stopped ≡ false }
     ensures renamed { OnOk result (RenamedSo name.now target.now store.old store.new (D.history store.old.disk) (D.history store.new.disk) (D.faults store.old.disk) (D.faults store.new.disk)) }
-    ensures refused { IfErr result (λ error. IsNotRenamed name.now target.now error store.old store.new (D.history store.old.disk) (D.history store.new.disk) (D.faults store.old.disk) (D.faults store.new.disk)) }
+    ensures refused { IfErr result (λ error. IsBoxNotRenamed name.now target.now error store.old store.new (D.history store.old.disk) (D.history store.new.disk) (D.faults store.old.disk) (D.faults store.new.disk)) }
 {
     store.facts();
     let number = may_rename(store, name, target)?;

@@ -72,12 +72,10 @@ hex_same xs ys p q e =
     let k : Ok xs ≡ Ok ys = sym (decode_of-encode_lower xs (octets_are_bytes xs p)) ∙ ap decode_of e ∙ decode_of-encode_lower ys (octets_are_bytes ys q) in
     cc k
 
--- a number of the first word, by its first two letters and its length, which tells the commands' words apart
+-- a number of the first word, by its first three letters and its length, which tells the commands' words apart
 abbrev tag : List (List ℕ) → ℕ
-tag [] = 0
-tag ([] ∷ words) = 0
-tag ((c ∷ []) ∷ words) = c
-tag ((c ∷ d ∷ word) ∷ words) = 100000 * c + 100 * d + length word
+tag ((c ∷ d ∷ e ∷ word) ∷ words) = 16777216 * c + 65536 * d + 256 * e + length word
+tag other = 0
 
 differ : (a b : List (List ℕ)) → a ≡ b → nat_eq (tag a) (tag b) ≡ false → ⊥
 differ a b e h = eqb-false (tag a) (tag b) h (ap tag e)
@@ -108,6 +106,19 @@ make_same : (a b : List ℕ) → words_of (command.Make a) ≡ words_of (command
 make_same a b e =
     let words : a ∷ [] ≡ b ∷ [] = cc e in
     cc words
+
+delete_same : (a b : List ℕ) → words_of (command.Delete a) ≡ words_of (command.Delete b) → a ≡ b
+delete_same a b e =
+    let words : a ∷ [] ≡ b ∷ [] = cc e in
+    cc words
+
+rename_same : (a b t w : List ℕ) → words_of (command.Rename a t) ≡ words_of (command.Rename b w) → command.Rename a t ≡ command.Rename b w
+rename_same a b t w e =
+    let words : a ∷ t ∷ [] ≡ b ∷ w ∷ [] = cc e in
+    let name : a ≡ b = cc words in
+    let last : t ∷ [] ≡ w ∷ [] = cc words in
+    let target : t ≡ w = cc last in
+    ap (λ (n : List ℕ). command.Rename n t) name ∙ ap (λ (n : List ℕ). command.Rename b n) target
 
 fetch_same : (a b : List ℕ) (u v : Uid) → IsInRange (command.Fetch a u) → IsInRange (command.Fetch b v) → words_of (command.Fetch a u) ≡ words_of (command.Fetch b v) → command.Fetch a u ≡ command.Fetch b v
 fetch_same a b u v p q e =
@@ -191,6 +202,8 @@ same_words (command.Expunge a u) (command.Expunge b v) p q e = expunge_same a b 
 same_words (command.Copy a u t) (command.Copy b v w) p q e = copy_same a b u v t w p q e
 same_words (command.Move a u t) (command.Move b v w) p q e = move_same a b u v t w p q e
 same_words (command.Make a) (command.Make b) p q e = ap (λ (n : List ℕ). command.Make n) (make_same a b e)
+same_words (command.Delete a) (command.Delete b) p q e = ap (λ (n : List ℕ). command.Delete n) (delete_same a b e)
+same_words (command.Rename a t) (command.Rename b w) p q e = rename_same a b t w e
 same_words (command.Batch a) (command.Batch b) p q e = batch_same a b p q e
 same_words (command.Exercise a m x) (command.Exercise b n y) p q e = exercise_same a b m n x y p q e
 same_words (command.Rebuild a) (command.Rebuild b) p q e = ap (λ (i : StoreId). command.Rebuild i) (rebuild_same a b p q e)

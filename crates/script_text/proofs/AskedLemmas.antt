@@ -35,8 +35,8 @@ nothing_alone_of words rest after space none (request.Make name) is = space (cod
 nothing_alone_of words rest after space none request.Counts is = none request.Counts tt is.words_are
 nothing_alone_of words rest after space none request.Purge is = none request.Purge tt is.words_are
 nothing_alone_of words rest after space none request.Resync is = none request.Resync tt is.words_are
-nothing_alone_of words rest after space none (request.Delete name) is = is.fits
-nothing_alone_of words rest after space none (request.Rename name target) is = is.fits
+nothing_alone_of words rest after space none (request.Delete name) is = space (codes "delete") (name_word name) is.words_are
+nothing_alone_of words rest after space none (request.Rename name target) is = space (codes "rename") (name_word name ++ 32 ∷ name_word target) is.words_are
 
 pub nothing_alone : (words rest : List ℕ) → ((before behind : List ℕ) → words ≢ before ++ 32 ∷ behind) → ((asked : Request) → IsOneWord asked → words ≢ spaced (request_words asked)) → AsksNothing words rest
 nothing_alone words rest space none asked after is = nothing_alone_of words rest after space none asked is
@@ -55,8 +55,8 @@ nothing_unknown_of words word arguments rest after e clear none (request.Make na
 nothing_unknown_of words word arguments rest after e clear none request.Counts is = no_cut 32 (codes "counts") word arguments refl (sym is.words_are ∙ e)
 nothing_unknown_of words word arguments rest after e clear none request.Purge is = no_cut 32 (codes "purge") word arguments refl (sym is.words_are ∙ e)
 nothing_unknown_of words word arguments rest after e clear none request.Resync is = no_cut 32 (codes "resync") word arguments refl (sym is.words_are ∙ e)
-nothing_unknown_of words word arguments rest after e clear none (request.Delete name) is = is.fits
-nothing_unknown_of words word arguments rest after e clear none (request.Rename name target) is = is.fits
+nothing_unknown_of words word arguments rest after e clear none (request.Delete name) is = none verb.Delete (until_same 32 word (codes "delete") arguments (name_word name) clear refl (sym e ∙ is.words_are)).0
+nothing_unknown_of words word arguments rest after e clear none (request.Rename name target) is = none verb.Rename (until_same 32 word (codes "rename") arguments (name_word name ++ 32 ∷ name_word target) clear refl (sym e ∙ is.words_are)).0
 
 pub nothing_unknown : (words word arguments rest : List ℕ) → words ≡ word ++ 32 ∷ arguments → IsTrue (list_all (is_other_than 32) word) → ((v : Verb) → word ≢ verb_text v) → AsksNothing words rest
 nothing_unknown words word arguments rest e clear none asked after is = nothing_unknown_of words word arguments rest after e clear none asked is
@@ -69,7 +69,6 @@ short_delivery_of arguments rest after name time size n tl sl e none (request.De
     let s = number_then t time (decimal_text (length message)) (decimal_text size) is.fits.1 tl r.1 in
     let same : length message ≡ size = decimal_injective (length message) size (omega (arith, is.fits.2)) sl s.1 in
     none message after same (omega (arith, is.fits.2, same)) is.message_is
-short_delivery_of arguments rest after name time size n tl sl e none (request.Delete other) is = is.fits
 short_delivery_of arguments rest after name time size n tl sl e none other is = differ (codes "deliver" ++ 32 ∷ arguments) (spaced (request_words other)) is.words_are refl
 
 pub short_delivery : (arguments rest name : List ℕ) (time size : ℕ) → IsName name → time < 2 ^ 64 → size < 2 ^ 64 → arguments ≡ name_word name ++ 32 ∷ (decimal_text time ++ 32 ∷ decimal_text size)

@@ -63,8 +63,6 @@ words_same lanes lane text words rest asked after few high e clear fits is =
 -- a delivery's line begins like no other request's
 not_delivery : (words rest : List ℕ) (asked : Request) → FitsScript asked → words ≡ spaced (request_words asked) → (AreDelivery words → ⊥) → AsksNothing words rest → ⊥
 not_delivery words rest (request.Deliver name time message) fits e none nothing = none (record { name = name; time = time; size = length message; name_fits = fits.0; time_fits = fits.1; size_fits = fits.2; words_are = e })
-not_delivery words rest (request.Delete name) fits e none nothing = fits
-not_delivery words rest (request.Rename name target) fits e none nothing = fits
 not_delivery words rest other fits e none nothing = nothing other rest (record { fits = fits; words_are = e; message_is = refl })
 
 pub words_lack : (lanes lane : ℕ) (text words rest : List ℕ) → lanes < 2 ^ 32 → lane ≤ lanes → text ≡ decimal_text lane ++ 32 ∷ (words ++ 10 ∷ rest) → IsTrue (list_all (is_other_than 10) words) → (AreDelivery words → ⊥) → AsksNothing words rest → Lacks lanes text need.Words
@@ -141,6 +139,12 @@ expunge_begins text e = (request.Expunge (lane_name 1) (record { 0 = 1 }), e.0, 
 pub make_begins : (text : List ℕ) → ((after : List ℕ) × (text ≡ codes "make" ++ after)) → BeginsVerb text
 make_begins text e = (request.Make (lane_name 1), e.0, named, e.1)
 
+pub delete_begins : (text : List ℕ) → ((after : List ℕ) × (text ≡ codes "delete" ++ after)) → BeginsVerb text
+delete_begins text e = (request.Delete (lane_name 1), e.0, named, e.1)
+
+pub rename_begins : (text : List ℕ) → ((after : List ℕ) × (text ≡ codes "rename" ++ after)) → BeginsVerb text
+rename_begins text e = (request.Rename (lane_name 1) (lane_name 1), e.0, (named, named), e.1)
+
 pub counts_begins : (text : List ℕ) → ((after : List ℕ) × (text ≡ codes "counts" ++ after)) → BeginsVerb text
 counts_begins text e = (request.Counts, e.0, tt, e.1)
 
@@ -152,23 +156,23 @@ resync_begins text e = (request.Resync, e.0, tt, e.1)
 
 -- no verb begins that isn't one of these
 -- a request's verb is one of the verbs
-of_asked : (text : List ℕ) → (((after : List ℕ) × (text ≡ codes "deliver" ++ after)) → ⊥) → (((after : List ℕ) × (text ≡ codes "list" ++ after)) → ⊥) → (((after : List ℕ) × (text ≡ codes "fetch" ++ after)) → ⊥) → (((after : List ℕ) × (text ≡ codes "flag" ++ after)) → ⊥) → (((after : List ℕ) × (text ≡ codes "copy" ++ after)) → ⊥) → (((after : List ℕ) × (text ≡ codes "move" ++ after)) → ⊥) → (((after : List ℕ) × (text ≡ codes "expunge" ++ after)) → ⊥) → (((after : List ℕ) × (text ≡ codes "make" ++ after)) → ⊥) → (((after : List ℕ) × (text ≡ codes "counts" ++ after)) → ⊥) → (((after : List ℕ) × (text ≡ codes "purge" ++ after)) → ⊥) → (((after : List ℕ) × (text ≡ codes "resync" ++ after)) → ⊥) → (asked : Request) (after : List ℕ) → FitsScript asked → text ≡ verb_word asked ++ after → ⊥
-of_asked text n0 n1 n2 n3 n4 n5 n6 n7 n8 n9 n10 (request.Deliver name time message) after f e = n0 (after, e)
-of_asked text n0 n1 n2 n3 n4 n5 n6 n7 n8 n9 n10 (request.List name) after f e = n1 (after, e)
-of_asked text n0 n1 n2 n3 n4 n5 n6 n7 n8 n9 n10 (request.Fetch name uid) after f e = n2 (after, e)
-of_asked text n0 n1 n2 n3 n4 n5 n6 n7 n8 n9 n10 (request.Flag name uid flags) after f e = n3 (after, e)
-of_asked text n0 n1 n2 n3 n4 n5 n6 n7 n8 n9 n10 (request.Copy name uid target) after f e = n4 (after, e)
-of_asked text n0 n1 n2 n3 n4 n5 n6 n7 n8 n9 n10 (request.Move name uid target) after f e = n5 (after, e)
-of_asked text n0 n1 n2 n3 n4 n5 n6 n7 n8 n9 n10 (request.Expunge name uid) after f e = n6 (after, e)
-of_asked text n0 n1 n2 n3 n4 n5 n6 n7 n8 n9 n10 (request.Make name) after f e = n7 (after, e)
-of_asked text n0 n1 n2 n3 n4 n5 n6 n7 n8 n9 n10 request.Counts after f e = n8 (after, e)
-of_asked text n0 n1 n2 n3 n4 n5 n6 n7 n8 n9 n10 request.Purge after f e = n9 (after, e)
-of_asked text n0 n1 n2 n3 n4 n5 n6 n7 n8 n9 n10 request.Resync after f e = n10 (after, e)
-of_asked text n0 n1 n2 n3 n4 n5 n6 n7 n8 n9 n10 (request.Delete name) after f e = f
-of_asked text n0 n1 n2 n3 n4 n5 n6 n7 n8 n9 n10 (request.Rename name target) after f e = f
+of_asked : (text : List ℕ) → (((after : List ℕ) × (text ≡ codes "deliver" ++ after)) → ⊥) → (((after : List ℕ) × (text ≡ codes "list" ++ after)) → ⊥) → (((after : List ℕ) × (text ≡ codes "fetch" ++ after)) → ⊥) → (((after : List ℕ) × (text ≡ codes "flag" ++ after)) → ⊥) → (((after : List ℕ) × (text ≡ codes "copy" ++ after)) → ⊥) → (((after : List ℕ) × (text ≡ codes "move" ++ after)) → ⊥) → (((after : List ℕ) × (text ≡ codes "expunge" ++ after)) → ⊥) → (((after : List ℕ) × (text ≡ codes "make" ++ after)) → ⊥) → (((after : List ℕ) × (text ≡ codes "delete" ++ after)) → ⊥) → (((after : List ℕ) × (text ≡ codes "rename" ++ after)) → ⊥) → (((after : List ℕ) × (text ≡ codes "counts" ++ after)) → ⊥) → (((after : List ℕ) × (text ≡ codes "purge" ++ after)) → ⊥) → (((after : List ℕ) × (text ≡ codes "resync" ++ after)) → ⊥) → (asked : Request) (after : List ℕ) → FitsScript asked → text ≡ verb_word asked ++ after → ⊥
+of_asked text n0 n1 n2 n3 n4 n5 n6 n7 n8 n9 n10 n11 n12 (request.Deliver name time message) after f e = n0 (after, e)
+of_asked text n0 n1 n2 n3 n4 n5 n6 n7 n8 n9 n10 n11 n12 (request.List name) after f e = n1 (after, e)
+of_asked text n0 n1 n2 n3 n4 n5 n6 n7 n8 n9 n10 n11 n12 (request.Fetch name uid) after f e = n2 (after, e)
+of_asked text n0 n1 n2 n3 n4 n5 n6 n7 n8 n9 n10 n11 n12 (request.Flag name uid flags) after f e = n3 (after, e)
+of_asked text n0 n1 n2 n3 n4 n5 n6 n7 n8 n9 n10 n11 n12 (request.Copy name uid target) after f e = n4 (after, e)
+of_asked text n0 n1 n2 n3 n4 n5 n6 n7 n8 n9 n10 n11 n12 (request.Move name uid target) after f e = n5 (after, e)
+of_asked text n0 n1 n2 n3 n4 n5 n6 n7 n8 n9 n10 n11 n12 (request.Expunge name uid) after f e = n6 (after, e)
+of_asked text n0 n1 n2 n3 n4 n5 n6 n7 n8 n9 n10 n11 n12 (request.Make name) after f e = n7 (after, e)
+of_asked text n0 n1 n2 n3 n4 n5 n6 n7 n8 n9 n10 n11 n12 request.Counts after f e = n10 (after, e)
+of_asked text n0 n1 n2 n3 n4 n5 n6 n7 n8 n9 n10 n11 n12 request.Purge after f e = n11 (after, e)
+of_asked text n0 n1 n2 n3 n4 n5 n6 n7 n8 n9 n10 n11 n12 request.Resync after f e = n12 (after, e)
+of_asked text n0 n1 n2 n3 n4 n5 n6 n7 n8 n9 n10 n11 n12 (request.Delete name) after f e = n8 (after, e)
+of_asked text n0 n1 n2 n3 n4 n5 n6 n7 n8 n9 n10 n11 n12 (request.Rename name target) after f e = n9 (after, e)
 
-pub none_begins : (text : List ℕ) → (((after : List ℕ) × (text ≡ codes "deliver" ++ after)) → ⊥) → (((after : List ℕ) × (text ≡ codes "list" ++ after)) → ⊥) → (((after : List ℕ) × (text ≡ codes "fetch" ++ after)) → ⊥) → (((after : List ℕ) × (text ≡ codes "flag" ++ after)) → ⊥) → (((after : List ℕ) × (text ≡ codes "copy" ++ after)) → ⊥) → (((after : List ℕ) × (text ≡ codes "move" ++ after)) → ⊥) → (((after : List ℕ) × (text ≡ codes "expunge" ++ after)) → ⊥) → (((after : List ℕ) × (text ≡ codes "make" ++ after)) → ⊥) → (((after : List ℕ) × (text ≡ codes "counts" ++ after)) → ⊥) → (((after : List ℕ) × (text ≡ codes "purge" ++ after)) → ⊥) → (((after : List ℕ) × (text ≡ codes "resync" ++ after)) → ⊥) → BeginsVerb text → ⊥
-none_begins text n0 n1 n2 n3 n4 n5 n6 n7 n8 n9 n10 b = of_asked text n0 n1 n2 n3 n4 n5 n6 n7 n8 n9 n10 b.0 b.1 b.2 b.3
+pub none_begins : (text : List ℕ) → (((after : List ℕ) × (text ≡ codes "deliver" ++ after)) → ⊥) → (((after : List ℕ) × (text ≡ codes "list" ++ after)) → ⊥) → (((after : List ℕ) × (text ≡ codes "fetch" ++ after)) → ⊥) → (((after : List ℕ) × (text ≡ codes "flag" ++ after)) → ⊥) → (((after : List ℕ) × (text ≡ codes "copy" ++ after)) → ⊥) → (((after : List ℕ) × (text ≡ codes "move" ++ after)) → ⊥) → (((after : List ℕ) × (text ≡ codes "expunge" ++ after)) → ⊥) → (((after : List ℕ) × (text ≡ codes "make" ++ after)) → ⊥) → (((after : List ℕ) × (text ≡ codes "delete" ++ after)) → ⊥) → (((after : List ℕ) × (text ≡ codes "rename" ++ after)) → ⊥) → (((after : List ℕ) × (text ≡ codes "counts" ++ after)) → ⊥) → (((after : List ℕ) × (text ≡ codes "purge" ++ after)) → ⊥) → (((after : List ℕ) × (text ≡ codes "resync" ++ after)) → ⊥) → BeginsVerb text → ⊥
+none_begins text n0 n1 n2 n3 n4 n5 n6 n7 n8 n9 n10 n11 n12 b = of_asked text n0 n1 n2 n3 n4 n5 n6 n7 n8 n9 n10 n11 n12 b.0 b.1 b.2 b.3
 
 -- a test that says no
 pub refused_by : {P : Type 0} → (r : Bool) → IsTrue r ↔ P → r ≡ false → P → ⊥

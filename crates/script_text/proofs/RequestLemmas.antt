@@ -44,8 +44,8 @@ words_clear (request.Make name) p = name_clear name p
 words_clear request.Counts p = refl
 words_clear request.Purge p = refl
 words_clear request.Resync p = refl
-words_clear (request.Delete name) p = absurd p
-words_clear (request.Rename name target) p = absurd p
+words_clear (request.Delete name) p = name_clear name p
+words_clear (request.Rename name target) p = spaced_clear (name_word name) (name_word target) (name_clear name p.0) (name_clear target p.1)
 
 -- the lane stands before the words
 pub lane_first : (lane : ℕ) (asked : Request) → spaced (decimal_text lane ∷ request_words asked) ≡ decimal_text lane ++ 32 ∷ spaced (request_words asked)
@@ -116,9 +116,9 @@ name_uid_then m n u v a b p q h k e = (number_then u v a b (small_uid u h) (smal
 
 -- ---- one request for one line and what follows it
 
--- the first three letters tell the verbs apart
+-- the first four letters tell the verbs apart
 abbrev pub tag : List ℕ → ℕ
-tag (a ∷ b ∷ c ∷ rest) = 65536 * a + 256 * b + c
+tag (a ∷ b ∷ c ∷ d ∷ rest) = 16777216 * a + 65536 * b + 256 * c + d
 tag other = 0
 
 pub differ : (a b : List ℕ) → a ≡ b → nat_eq (tag a) (tag b) ≡ false → ⊥
@@ -181,6 +181,12 @@ move_same a b u v s t p q e =
     let target : s ≡ t = name_alone_same s t p.2 q.2 r.2 in
     ap (λ (w : List ℕ). request.Move w u s) r.0 ∙ ap (λ (w : ℕ). request.Move b (record { 0 = w }) s) r.1 ∙ ap (λ (w : List ℕ). request.Move b v w) target
 
+rename_same : (a b s t : List ℕ) → FitsScript (request.Rename a s) → FitsScript (request.Rename b t) → name_word a ++ 32 ∷ name_word s ≡ name_word b ++ 32 ∷ name_word t → request.Rename a s ≡ request.Rename b t
+rename_same a b s t p q e =
+    let r = name_then a b (name_word s) (name_word t) (short_name a p.0) (short_name b q.0) e in
+    let target : s ≡ t = name_alone_same s t p.1 q.1 r.1 in
+    ap (λ (w : List ℕ). request.Rename w s) r.0 ∙ ap (λ (w : List ℕ). request.Rename b w) target
+
 asked_same : (a b : Request) (x y : List ℕ) → FitsScript a → FitsScript b → spaced (request_words a) ≡ spaced (request_words b) → message_text a ++ x ≡ message_text b ++ y → (a ≡ b) × (x ≡ y)
 asked_same (request.Deliver a t m) (request.Deliver b u n) x y p q e f = deliver_same a b t u m n x y p q (ap (drop 8) e) f
 asked_same (request.List a) (request.List b) x y p q e f = (ap (λ (w : List ℕ). request.List w) (name_alone_same a b p q (ap (drop 5) e)), f)
@@ -193,10 +199,8 @@ asked_same (request.Make a) (request.Make b) x y p q e f = (ap (λ (w : List ℕ
 asked_same request.Counts request.Counts x y p q e f = (refl, f)
 asked_same request.Purge request.Purge x y p q e f = (refl, f)
 asked_same request.Resync request.Resync x y p q e f = (refl, f)
-asked_same (request.Delete a) b x y p q e f = absurd p
-asked_same (request.Rename a s) b x y p q e f = absurd p
-asked_same a (request.Delete b) x y p q e f = absurd q
-asked_same a (request.Rename b t) x y p q e f = absurd q
+asked_same (request.Delete a) (request.Delete b) x y p q e f = (ap (λ (w : List ℕ). request.Delete w) (name_alone_same a b p q (ap (drop 7) e)), f)
+asked_same (request.Rename a s) (request.Rename b t) x y p q e f = (rename_same a b s t p q (ap (drop 7) e), f)
 asked_same a b x y p q e f = absurd (differ (spaced (request_words a)) (spaced (request_words b)) e refl)
 
 -- no request begins another

@@ -47,8 +47,8 @@ words_short (request.Make name) p = let h = name_short name p in omega (arith, h
 words_short request.Counts p = omega arith
 words_short request.Purge p = omega arith
 words_short request.Resync p = omega arith
-words_short (request.Delete name) p = absurd p
-words_short (request.Rename name target) p = absurd p
+words_short (request.Delete name) p = let h = name_short name p in omega (arith, h)
+words_short (request.Rename name target) p = let h = two_short (name_word name) (name_word target) 276 276 (name_short name p.0) (name_short target p.1) in omega (arith, h)
 
 pub line_short : (lanes : ℕ) (asked : ℕ × Request) → lanes < 2 ^ 32 → FitsLanes lanes asked → length (request_line asked) ≤ 1024
 line_short lanes asked small fits =
@@ -81,8 +81,6 @@ size_told name time size arguments n tl sl e (request.Deliver other t message) f
   where
     after : codes "deliver " ++ arguments ≡ codes "deliver " ++ (name_word other ++ 32 ∷ (decimal_text t ++ 32 ∷ decimal_text (length message))) → arguments ≡ name_word other ++ 32 ∷ (decimal_text t ++ 32 ∷ decimal_text (length message))
     after p = cc p
-size_told name time size arguments n tl sl e (request.Delete other) fits is = absurd fits
-size_told name time size arguments n tl sl e (request.Rename other target) fits is = absurd fits
 size_told name time size arguments n tl sl e other fits is = absurd (differ (codes "deliver " ++ arguments) (spaced (request_words other)) is refl)
 
 -- A request whose words don't begin so has no message.
@@ -230,8 +228,6 @@ no_delivery arguments none (request.Deliver name time message) fits is = none na
   where
     after : codes "deliver " ++ arguments ≡ codes "deliver " ++ (name_word name ++ 32 ∷ (decimal_text time ++ 32 ∷ decimal_text (length message))) → arguments ≡ name_word name ++ 32 ∷ (decimal_text time ++ 32 ∷ decimal_text (length message))
     after p = cc p
-no_delivery arguments none (request.Delete other) fits is = fits
-no_delivery arguments none (request.Rename other target) fits is = fits
 no_delivery arguments none other fits is = differ (codes "deliver " ++ arguments) (spaced (request_words other)) is refl
 
 pub message_small : (asked : Request) → FitsScript asked → length (message_text asked) ≤ 67108865

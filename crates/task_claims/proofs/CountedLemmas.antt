@@ -10,7 +10,7 @@ use Rattle.mdbox_base.specs.declared.ids.MapUid.{MapUid}
 use Rattle.model_meaning.specs.MapFits.{MapFits}
 use Rattle.model_meaning.specs.MapMeaning.{MapRecord, MapMeaning, record_at, record_changed, count_given, map_applied, has_map_uid}
 use Rattle.model_meaning.proofs.AppliedLemmas.{records_by_raised, records_by_lowered, records_by_deleted, records_by_renamed}
-use Rattle.store_core.proofs.MapDueLemmas.{found_deleted, found_with}
+use Rattle.store_core.proofs.MapDueLemmas.{found_with}
 use Rattle.task_claims.specs.Leaving.{but_count, records_within, RaisesNone, SameButCounts}
 
 -- ---- entries that change counts
@@ -84,10 +84,23 @@ unraised_lower uids m other row now there none is =
     by_test true = omega (arith, none)
     by_test false = none
 
+-- a mailbox is deleted: each record is found still
+found_deleted : (mailbox : BoxNo) (amounts : List MapCount) (uid : ℕ) (rows : List MapRecord) (row : MapRecord) → find (λ r. r.uid == uid) rows ≡ Some row → find (λ r. r.uid == uid) (map (record_changed (map_entry.X mailbox amounts)) rows) ≡ Some (record_changed (map_entry.X mailbox amounts) row)
+found_deleted mailbox amounts uid [] row is = absurd (let k : None ≡ Some row = is in cc k)
+found_deleted mailbox amounts uid (r ∷ rows) row is = by_test (r.uid == uid) is (found_deleted mailbox amounts uid rows row)
+  where
+    by_test : (t : Bool) → (if t then Some r else find (λ x. x.uid == uid) rows) ≡ Some row → (find (λ x. x.uid == uid) rows ≡ Some row → find (λ x. x.uid == uid) (map (record_changed (map_entry.X mailbox amounts)) rows) ≡ Some (record_changed (map_entry.X mailbox amounts) row))
+        → (if t then Some (record_changed (map_entry.X mailbox amounts) r) else find (λ x. x.uid == uid) (map (record_changed (map_entry.X mailbox amounts)) rows)) ≡ Some (record_changed (map_entry.X mailbox amounts) row)
+    by_test true e rest = let same : r ≡ row = some_record r row e in ap (λ (x : MapRecord). Some (record_changed (map_entry.X mailbox amounts) x)) same
+    by_test false e rest = rest e
+
 pub unraised_deleted : (mailbox : BoxNo) (amounts : List MapCount) (m : MapMeaning) → RaisesNone m (map_applied (map_entry.X mailbox amounts) m)
 unraised_deleted mailbox amounts m other row now there none is =
-    let count : now.count ≡ row.count - count_given row.uid amounts 0 = ap (λ (r : MapRecord). r.count) (some_record now (record_changed (map_entry.X mailbox amounts) row) (sym is ∙ found_deleted mailbox amounts m other row there)) in
+    let count : now.count ≡ row.count - count_given row.uid amounts 0 = ap (λ (r : MapRecord). r.count) (some_record now (record_changed (map_entry.X mailbox amounts) row) (sym is ∙ (ap (find (λ (r : MapRecord). r.uid == other)) (records_by_deleted mailbox amounts m.records) ∙ found_deleted mailbox amounts other m.records row there))) in
     omega (arith, count, none)
+
+pub unraised_renamed : (mailbox : BoxNo) (name : List ℕ) (m : MapMeaning) → RaisesNone m (map_applied (map_entry.V mailbox name) m)
+unraised_renamed mailbox name m = unraised_same m (map_applied (map_entry.V mailbox name) m) (records_by_renamed mailbox name m.records)
 
 -- ---- what they have in common
 

@@ -1,14 +1,14 @@
 -- Numbers of deleted mailboxes stay such: no mailbox gets one, and no log of it is made.
 use Rattle.std.specs.List.{list_any}
-use Rattle.std.specs.Prelude.{filter, not, ◌||◌}
-use Rattle.std.proofs.Common.{◌≡◌, ◌≢◌, ◌≤◌, ◌<◌, ◌==◌, ℕ, Bool, true, false, List, [], ◌∷◌, ◌++◌, All, refl, sym, ◌∙◌, ap, subst, arith}
+use Rattle.std.specs.Prelude.{if◌then◌else◌, not, ◌||◌}
+use Rattle.std.proofs.Common.{◌≡◌, ◌≢◌, ◌≤◌, ◌<◌, ◌==◌, ℕ, Bool, true, false, List, [], ◌∷◌, All, refl, sym, ◌∙◌, ap, subst, arith}
 use Rattle.std.proofs.lemmas.Bool.{ne_eqb}
 use Rattle.std.proofs.lemmas.List.Elements.{All-append, All-cons, All-nil}
 use Rattle.mdbox_base.specs.declared.entries.MapEntry.TheVariants as map_entry
 use Rattle.mdbox_base.specs.declared.ids.BoxNo.{BoxNo}
 use Rattle.model_meaning.specs.MapMeaning.{MapBox, MapMeaning, map_applied}
 use Rattle.model_meaning.proofs.AppliedLemmas.{boxes_by_mailbox}
-use Rattle.store_core.specs.MadeLogs.{IsGone, IsUnnamed, KeepsGone, has_made_log, without_box}
+use Rattle.store_core.specs.MadeLogs.{IsUnnamed, KeepsGone, has_made_log, without_box}
 use Rattle.store_core.specs.Value.{StoreValue}
 use Rattle.store_core.specs.declared.store.OpenBox.{OpenBox}
 
@@ -34,13 +34,13 @@ gone_created number old new map_is above made = λ other g. record {
 -- no log of this number is left where none was
 none_left : (number other : ℕ) (made : List OpenBox) → list_any (λ o. o.number.0 == other) made ≡ false → list_any (λ o. o.number.0 == other) (without_box number made) ≡ false
 none_left number other [] none = refl
-none_left number other (o ∷ os) none = by_tests (o.number.0 == other) (o.number.0 == number) none (λ rest. none_left number other os rest)
+none_left number other (o ∷ os) none = by_tests (o.number.0 == other) (o.number.0 == number) refl none (λ rest. none_left number other os rest)
   where
-    by_tests : (t s : Bool) → (t || list_any (λ x. x.number.0 == other) os) ≡ false → (list_any (λ x. x.number.0 == other) os ≡ false → list_any (λ x. x.number.0 == other) (without_box number os) ≡ false)
+    by_tests : (t s : Bool) → (o.number.0 == other) ≡ t → (t || list_any (λ x. x.number.0 == other) os) ≡ false → (list_any (λ x. x.number.0 == other) os ≡ false → list_any (λ x. x.number.0 == other) (without_box number os) ≡ false)
         → list_any (λ x. x.number.0 == other) (if not s then o ∷ without_box number os else without_box number os) ≡ false
-    by_tests true s is rest = absurd (let k : true ≡ false = is in cc k)
-    by_tests false true is rest = rest is
-    by_tests false false is rest = rest is
+    by_tests true s e is rest = absurd (let k : true ≡ false = is in cc k)
+    by_tests false true e is rest = rest is
+    by_tests false false e is rest = ap (λ (t : Bool). t || list_any (λ (x : OpenBox). x.number.0 == other) (without_box number os)) e ∙ rest is
 
 -- such a log is removed
 pub gone_removed : {D : Type 0} → (number : ℕ) (old new : StoreValue D) → new.map ≡ old.map → new.made ≡ without_box number old.made → KeepsGone old new

@@ -140,6 +140,8 @@ fits_all (command.Expunge name uid) r = (r.0, ((uid.0, r.1.low, r.1.high, refl),
 fits_all (command.Copy name uid target) r = (r.0, ((uid.0, r.1.low, r.1.high, refl), (r.2, tt)))
 fits_all (command.Move name uid target) r = (r.0, ((uid.0, r.1.low, r.1.high, refl), (r.2, tt)))
 fits_all (command.Make name) r = (r, tt)
+fits_all (command.Delete name) r = (r, tt)
+fits_all (command.Rename name target) r = (r.0, (r.1, tt))
 fits_all command.Boxes r = tt
 fits_all command.Counts r = tt
 fits_all command.Purge r = tt
@@ -194,6 +196,8 @@ said_by (command.Batch lanes) words f = let s = one_fit rule.Lanes words f in (c
 said_by (command.Deliver name) words f = let s = one_fit rule.Name words f in (command.Deliver s.0, s.1, same_one (codes "deliver") _ _ words s.2 refl)
 said_by (command.List name) words f = let s = one_fit rule.Name words f in (command.List s.0, s.1, same_one (codes "list") _ _ words s.2 refl)
 said_by (command.Make name) words f = let s = one_fit rule.Name words f in (command.Make s.0, s.1, same_one (codes "make") _ _ words s.2 refl)
+said_by (command.Delete name) words f = let s = one_fit rule.Name words f in (command.Delete s.0, s.1, same_one (codes "delete") _ _ words s.2 refl)
+said_by (command.Rename name target) words f = let s = two_fit rule.Name rule.Name words f in (command.Rename s.0 s.1, (s.2, s.3), same_two (codes "rename") _ _ _ _ words s.4 refl refl)
 said_by (command.Fetch name uid) words f = let s = two_fit rule.Name rule.Uid words f in (command.Fetch s.0 (record { 0 = s.3.0 }), (s.2, record { low = s.3.1; high = s.3.2 }), same_two (codes "fetch") _ _ _ _ words s.4 refl s.3.3)
 said_by (command.Expunge name uid) words f = let s = two_fit rule.Name rule.Uid words f in (command.Expunge s.0 (record { 0 = s.3.0 }), (s.2, record { low = s.3.1; high = s.3.2 }), same_two (codes "expunge") _ _ _ _ words s.4 refl s.3.3)
 said_by (command.Flag name uid flags) words f = let s = three_fit rule.Name rule.Uid rule.Flags words f in (command.Flag s.0 (record { 0 = s.4.0 }) s.5.0, (s.3, record { low = s.4.1; high = s.4.2 }, s.5.2), same_three (codes "flag") _ _ _ _ _ _ words s.6 refl s.4.3 s.5.3)
@@ -212,11 +216,10 @@ said_by command.Version words f = plain command.Version words tt refl f
 
 -- ---- a verb has one row of rules
 
--- the first two letters of a verb and its length tell it from the others
+-- the first three letters of a verb and its length tell it from the others
 abbrev tag : List ℕ → ℕ
-tag [] = 0
-tag (c ∷ []) = c
-tag (c ∷ d ∷ word) = 100000 * c + 100 * d + length word
+tag (c ∷ d ∷ e ∷ word) = 16777216 * c + 65536 * d + 256 * e + length word
+tag other = 0
 
 differ : (a b : List ℕ) → a ≡ b → nat_eq (tag a) (tag b) ≡ false → ⊥
 differ a b e h = eqb-false (tag a) (tag b) h (ap tag e)
@@ -231,6 +234,8 @@ rules_same (command.Expunge a0 a1) (command.Expunge b0 b1) e = refl
 rules_same (command.Copy a0 a1 a2) (command.Copy b0 b1 b2) e = refl
 rules_same (command.Move a0 a1 a2) (command.Move b0 b1 b2) e = refl
 rules_same (command.Make a0) (command.Make b0) e = refl
+rules_same (command.Delete a0) (command.Delete b0) e = refl
+rules_same (command.Rename a0 a1) (command.Rename b0 b1) e = refl
 rules_same command.Boxes command.Boxes e = refl
 rules_same command.Counts command.Counts e = refl
 rules_same command.Purge command.Purge e = refl
@@ -255,6 +260,8 @@ lengths (command.Expunge a0 a1) = refl
 lengths (command.Copy a0 a1 a2) = refl
 lengths (command.Move a0 a1 a2) = refl
 lengths (command.Make a0) = refl
+lengths (command.Delete a0) = refl
+lengths (command.Rename a0 a1) = refl
 lengths command.Boxes = refl
 lengths command.Counts = refl
 lengths command.Purge = refl

@@ -27,6 +27,8 @@ pub(crate) fn rules_of(verb: &str) -> Option<&'static [Rule]>
         "copy" => Some(&[Rule::Name, Rule::Uid, Rule::Name]),
         "move" => Some(&[Rule::Name, Rule::Uid, Rule::Name]),
         "make" => Some(&[Rule::Name]),
+        "delete" => Some(&[Rule::Name]),
+        "rename" => Some(&[Rule::Name, Rule::Name]),
         "batch" => Some(&[Rule::Lanes]),
         "exercise" => Some(&[Rule::Lanes, Rule::Requests, Rule::Number]),
         "rebuild" => Some(&[Rule::Id]),

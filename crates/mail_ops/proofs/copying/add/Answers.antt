@@ -1,9 +1,9 @@
-use Rattle.mail_ops.proofs.Common.{◌∙◌, sym, ap, subst, arith, refl, ℕ, [], All-nil, All-cons, row_of, not_true, ok_is_none, BoxTook, BoxFell}
+use Rattle.mail_ops.proofs.Common.{Some, ◌∙◌, sym, ap, subst, arith, refl, ℕ, [], All-nil, All-cons, row_of, not_true, ok_is_none, BoxTook, BoxFell}
 use Rattle.std.proofs.Common.{Err}
 use Rattle.mdbox_base.specs.declared.entries.BoxEntry.TheVariants as box_entry
 use Rattle.model_store.specs.Opening.{HasItsRecord}
 use Rattle.mail_ops.proofs.CopyCallLemmas.{row_sound, held_row}
-use Rattle.mail_ops.proofs.MessageLemmas.{record_of_row}
+use Rattle.mail_ops.proofs.MessageLemmas.{from_source, record_of_row}
 use Rattle.mail_ops.proofs.copying.add.Goals as goal
 
 pub append_box-requires-clause-fits : goal.append_box-requires-clause-fits
@@ -21,18 +21,21 @@ pub returns-in-Ok-clause-added : goal.returns-in-Ok-clause-added
 returns-in-Ok-clause-added g c =
     let at = c.in_ok-row.ensures.found in
     let row = row_of c.in_ok-row.field-0.row in
+    let same = from_source c.args.name.now at.source c.args.source.0 at.source c.args.store.now at.from.box.number_is (c.in_ok-row.ensures.source ∙ ap Some c.if-now-began.false) refl in
     let o = c.in-Ok.ensures in
     record {
       row = row;
       number = c.in_ok-row.field-0.target.0;
       at = at;
-      holds = held_row c.args.store.now c.args.name.now c.args.uid.0 at.source c.args.held.0 row c.requires.keeps at.from;
+      source_is = same;
+      holds = held_row c.args.store.now c.args.name.now c.args.uid.0 at.source c.args.source.0 c.args.held.0 row c.requires.keeps at.from same;
       took = subst (λ (f : ℕ). BoxTook c.in_ok-row.field-0.target.0 (box_entry.A c.in_ok-row.field-0.next f row.time row.size (record { 0 = row.map_uid }) (record { 0 = row.guid })) c.args.store.now c.append_box.new.self (g.D.Disk.history c.args.store.now.disk) (g.D.Disk.history c.append_box.new.self.disk) (g.D.Disk.faults c.args.store.now.disk) (g.D.Disk.faults c.append_box.new.self.disk)) c.bits.ensures.same (record {
         appends = record {
           moments = o.any_moment;
           map = ap (λ v. v.map) o.same;
           drawn = ap (λ v. v.drawn) o.same;
           files = ap (λ v. v.files) o.same;
+          end = (let same = ap (λ v. v.map_log.end) o.same in omega (arith, same));
           room = (let same = ap (λ v. v.map_log.room) o.same in omega (arith, same));
           rest = o.same ∙ sym (ap (λ v. record c.args.store.now { disk = v.disk; map_log = v.map_log; map = v.map; boxes = v.boxes; drawn = v.drawn; dues = v.dues; stopped = v.stopped }) o.same);
           stays = o.mail_stays;
@@ -54,19 +57,22 @@ pub returns-in-Err-Stopped-clause-refused : goal.returns-in-Err-Stopped-clause-r
 returns-in-Err-Stopped-clause-refused g c =
     let at = c.in_ok-row.ensures.found in
     let row = row_of c.in_ok-row.field-0.row in
+    let same = from_source c.args.name.now at.source c.args.source.0 at.source c.args.store.now at.from.box.number_is (c.in_ok-row.ensures.source ∙ ap Some c.if-now-began.false) refl in
     let o = c.in-Err-Stopped.ensures in
     record {
       row = row;
       number = c.in_ok-row.field-0.target.0;
       given = c.in_ok-row.field-0.next;
       at = at;
-      holds = held_row c.args.store.now c.args.name.now c.args.uid.0 at.source c.args.held.0 row c.requires.keeps at.from;
+      source_is = same;
+      holds = held_row c.args.store.now c.args.name.now c.args.uid.0 at.source c.args.source.0 c.args.held.0 row c.requires.keeps at.from same;
       fell = subst (λ (f : ℕ). BoxFell c.in_ok-row.field-0.target.0 (box_entry.A c.in_ok-row.field-0.next f row.time row.size (record { 0 = row.map_uid }) (record { 0 = row.guid })) c.args.store.now c.append_box.new.self (g.D.Disk.history c.args.store.now.disk) (g.D.Disk.history c.append_box.new.self.disk) (g.D.Disk.faults c.args.store.now.disk) (g.D.Disk.faults c.append_box.new.self.disk)) c.bits.ensures.same (record {
         appends = record {
           moments = o.any_moment;
           map = ap (λ v. v.map) o.same;
           drawn = ap (λ v. v.drawn) o.same;
           files = ap (λ v. v.files) o.same;
+          end = (let same = ap (λ v. v.map_log.end) o.same in omega (arith, same));
           room = (let same = ap (λ v. v.map_log.room) o.same in omega (arith, same));
           rest = o.same ∙ sym (ap (λ v. record c.args.store.now { disk = v.disk; map_log = v.map_log; map = v.map; boxes = v.boxes; drawn = v.drawn; dues = v.dues; stopped = v.stopped }) o.same);
           stays = o.mail_stays;

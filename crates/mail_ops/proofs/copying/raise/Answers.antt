@@ -39,6 +39,7 @@ returns-in-Ok-clause-raised g c =
         settled = λ lists s. o.settled lists tt tt s;
         fits = rw c.in_ok-held.ensures (raise_fits _ c.args.store.now c.args.name.now c.args.uid.0 at.source (row_of c.in_ok-at.at.row) c.facts.ensures.store at.from (omega (arith, c.count_of.ensures, c.if-count_of-ge-MOST_COPIES.false)));
         taken = rw c.in_ok-held.ensures o.taken;
+        further = o.further;
         due = rw c.in_ok-held.ensures o.due;
         spared = o.spared;
         mail = o.others;

@@ -84,7 +84,7 @@ pub returns-in-Ok-clause-leaves : goal.returns-in-Ok-clause-leaves
 returns-in-Ok-clause-leaves g c = λ runs.
     let named = c.in-Some-number_of.ensures.some.0 ∙ (sym c.list_of.ensures ∙ ap (λ o. option_map (λ (i : BoxState). i.meaning) (option_copied o)) c.in-Some.is) in
     flag_leaves c.in-Some-number_of.number.0 c.args.uid c.bits.result c.args.store.now c.append_box.new.self _ _ (ap (λ v. v.map) c.in-Ok.ensures.same) (ap (λ v. v.files) c.in-Ok.ensures.same) (ap (λ v. v.instances) c.in-Ok.ensures.same) c.in-Ok.ensures.taken c.in-Ok.ensures.others
-    (flags_left c.in-Some-number_of.number.0 c.args.uid c.bits.result c.in-Some.index.now.meaning c.args.store.now c.append_box.new.self (ap (λ v. v.map) c.in-Ok.ensures.same) c.in-Ok.ensures.taken named) (let same = ap (λ v. v.map_log.room) c.in-Ok.ensures.same in omega (arith, same)) (λ other. c.in-Ok.ensures.due c.in-Some.index.now.meaning other named)
+    (flags_left c.in-Some-number_of.number.0 c.args.uid c.bits.result c.in-Some.index.now.meaning c.args.store.now c.append_box.new.self (ap (λ v. v.map) c.in-Ok.ensures.same) c.in-Ok.ensures.taken named) (let same = ap (λ v. v.map_log.room) c.in-Ok.ensures.same in omega (arith, same)) (ap (λ v. v.made) c.in-Ok.ensures.same) (let same = ap (λ v. v.map_log.end) c.in-Ok.ensures.same in omega (arith, same)) (λ other. c.in-Ok.ensures.due c.in-Some.index.now.meaning other named)
 
 pub returns-in-Err-Stopped-clause-leaves : goal.returns-in-Err-Stopped-clause-leaves
 returns-in-Err-Stopped-clause-leaves g c = λ runs. absurd (fall _ (c.in-Err-Stopped.ensures.stopped.0 (ap Err c.in-Err-Stopped.field-0-is)) runs)

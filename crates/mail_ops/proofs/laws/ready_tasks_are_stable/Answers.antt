@@ -1,3 +1,4 @@
+use Rattle.mail_ops.proofs.ChangeClaimLemmas.{delete_stable}
 use Rattle.mail_ops.proofs.StableLemmas.{copy_stable, expunge_stable, make_stable, move_stable}
 use Rattle.mail_ops.proofs.laws.ready_tasks_are_stable.Goals as goal
 
@@ -12,3 +13,6 @@ returns-clause-expunges g c = expunge_stable
 
 pub returns-clause-makes : goal.returns-clause-makes
 returns-clause-makes g c = make_stable
+
+pub returns-clause-deletes : goal.returns-clause-deletes
+returns-clause-deletes g c = delete_stable

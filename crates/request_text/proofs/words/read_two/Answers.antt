@@ -10,3 +10,6 @@ returns-in-deliver-clause-memory c = λ e. (command.Deliver c.args.word.now, tt,
 
 pub returns-in-make-clause-memory : goal.returns-in-make-clause-memory
 returns-in-make-clause-memory c = λ e. (command.Make c.args.word.now, tt, (c.read_make.ensures.memory e, ap (λ (verb : List ℕ). verb ∷ c.args.word.now ∷ []) c.in-make.is))
+
+pub returns-in-delete-clause-memory : goal.returns-in-delete-clause-memory
+returns-in-delete-clause-memory c = λ e. (command.Delete c.args.word.now, tt, (c.read_delete.ensures.memory e, ap (λ (verb : List ℕ). verb ∷ c.args.word.now ∷ []) c.in-delete.is))

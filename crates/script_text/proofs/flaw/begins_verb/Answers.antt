@@ -1,6 +1,6 @@
 use Rattle.std.proofs.Common.{inl, inr, refl}
 use Rattle.std.proofs.lemmas.Bool.{cases_Bool}
-use Rattle.script_text.proofs.FlawLemmas.{copy_begins, counts_begins, deliver_begins, expunge_begins, fetch_begins, flag_begins, list_begins, make_begins, move_begins, none_begins, purge_begins, refused_by, resync_begins}
+use Rattle.script_text.proofs.FlawLemmas.{copy_begins, counts_begins, delete_begins, deliver_begins, expunge_begins, fetch_begins, flag_begins, list_begins, make_begins, move_begins, none_begins, purge_begins, refused_by, rename_begins, resync_begins}
 use Rattle.script_text.proofs.flaw.begins_verb.Goals as goal
 
 pub returns-then-begins : goal.returns-then-begins
@@ -28,15 +28,21 @@ pub returns-then-begins-8 : goal.returns-then-begins-8
 returns-then-begins-8 c = ((λ yes. make_begins c.args.text.now (c.begins-8.ensures.0 c.if-begins-8.true)), (λ verb. refl))
 
 pub returns-then-begins-9 : goal.returns-then-begins-9
-returns-then-begins-9 c = ((λ yes. counts_begins c.args.text.now (c.begins-9.ensures.0 c.if-begins-9.true)), (λ verb. refl))
+returns-then-begins-9 c = ((λ yes. delete_begins c.args.text.now (c.begins-9.ensures.0 c.if-begins-9.true)), (λ verb. refl))
 
 pub returns-then-begins-10 : goal.returns-then-begins-10
-returns-then-begins-10 c = ((λ yes. purge_begins c.args.text.now (c.begins-10.ensures.0 c.if-begins-10.true)), (λ verb. refl))
+returns-then-begins-10 c = ((λ yes. rename_begins c.args.text.now (c.begins-10.ensures.0 c.if-begins-10.true)), (λ verb. refl))
+
+pub returns-then-begins-11 : goal.returns-then-begins-11
+returns-then-begins-11 c = ((λ yes. counts_begins c.args.text.now (c.begins-11.ensures.0 c.if-begins-11.true)), (λ verb. refl))
+
+pub returns-then-begins-12 : goal.returns-then-begins-12
+returns-then-begins-12 c = ((λ yes. purge_begins c.args.text.now (c.begins-12.ensures.0 c.if-begins-12.true)), (λ verb. refl))
 
 pub returns : goal.returns
 returns c = (
-  (λ yes. resync_begins c.args.text.now (c.begins-11.ensures.0 yes)),
-  (λ verb. elim (cases_Bool c.begins-11.result) [
+  (λ yes. resync_begins c.args.text.now (c.begins-13.ensures.0 yes)),
+  (λ verb. elim (cases_Bool c.begins-13.result) [
     | inl is ↦ is
     | inr isnt ↦ absurd (none_begins c.args.text.now
         (refused_by c.begins.result c.begins.ensures c.if-begins.false)
@@ -49,6 +55,8 @@ returns c = (
         (refused_by c.begins-8.result c.begins-8.ensures c.if-begins-8.false)
         (refused_by c.begins-9.result c.begins-9.ensures c.if-begins-9.false)
         (refused_by c.begins-10.result c.begins-10.ensures c.if-begins-10.false)
-        (refused_by c.begins-11.result c.begins-11.ensures isnt) verb)
+        (refused_by c.begins-11.result c.begins-11.ensures c.if-begins-11.false)
+        (refused_by c.begins-12.result c.begins-12.ensures c.if-begins-12.false)
+        (refused_by c.begins-13.result c.begins-13.ensures isnt) verb)
   ]),
 )

@@ -17,6 +17,12 @@ returns-in-list-clause-some c = (command.List [], sym c.in-list.is, refl)
 pub returns-in-make-clause-some : goal.returns-in-make-clause-some
 returns-in-make-clause-some c = (command.Make [], sym c.in-make.is, refl)
 
+pub returns-in-delete-clause-some : goal.returns-in-delete-clause-some
+returns-in-delete-clause-some c = (command.Delete [], sym c.in-delete.is, refl)
+
+pub returns-in-rename-clause-some : goal.returns-in-rename-clause-some
+returns-in-rename-clause-some c = (command.Rename [] [], sym c.in-rename.is, refl)
+
 pub returns-in-fetch-clause-some : goal.returns-in-fetch-clause-some
 returns-in-fetch-clause-some c = (command.Fetch [] (record { 0 = 1 }), sym c.in-fetch.is, refl)
 

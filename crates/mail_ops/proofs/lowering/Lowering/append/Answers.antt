@@ -31,6 +31,7 @@ returns-in-Ok g c =
       settled = λ lists s. o.settled lists synced named s;
       fits = subst (λ (e : MapEntry). MapFits c.args.store.now.map e) (sym is) (one_lowered_fits c.args.store.now.map _ (c.known_dues.ensures _ c.requires.due));
       taken = o.taken;
+      further = o.further;
       due = o.due;
       spared = o.spared;
       mail = o.others;

@@ -34,6 +34,6 @@ returns-clause-claims g c = λ runs.
     let changed = make_changes _ c.args.self.now.stage c.next_event-next.result.0 c.next_event-next.result.1 c.args.store.now c.next_event-next.new.store _ _ runs (c.requires.ready (sym c.stopped.ensures ∙ c.if-stopped.false)) k.replies in
     record {
       moves = make_moves c.args.self.now.stage c.next_event-next.result.0 c.args.store.now c.next_event-next.new.store changed k.moves k.keeps.rest;
-      leaves = make_leaves c.args.self.now.stage c.next_event-next.result.0 c.args.store.now c.next_event-next.new.store _ _ changed k.moves k.keeps.rest (k.keeps.mail.left (runs ∙ sym (sym c.stopped.ensures ∙ c.if-stopped.false))) k.uids;
+      leaves = make_leaves c.args.self.now.stage c.next_event-next.result.0 c.args.store.now c.next_event-next.new.store _ _ changed k.moves k.keeps.rest (k.keeps.mail.left (runs ∙ sym (sym c.stopped.ensures ∙ c.if-stopped.false))) k.uids k.gone;
       ended = λ given is. make_ended _ c.args.self.now.stage c.next_event-next.result.0 c.next_event-next.result.1 c.args.store.now c.next_event-next.new.store _ _ given k.replies is runs;
     }
