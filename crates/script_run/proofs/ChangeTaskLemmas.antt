@@ -29,7 +29,7 @@ use Rattle.script_run.proofs.OneTaskLemmas.{IsChangeTold, KeepsAlone, missing_an
 -- it was refused by a check, or there was no memory, and nothing has changed
 unchanged_told : {D : Type 0} → (cause : Option Refusal) (mid before after : Option History) (why : Refusal) (old new : StoreValue D) → before ≡ mid → (new ≡ old) × ((cause ≡ Some why) ⊎ ((cause ≡ None) × (why ≡ refusal.NoMemory))) → (new ≡ old → IsIdle before after) → IsChangeTold cause mid (reply.Refused why) after
 unchanged_told cause mid before after why old new was (same, by) idle = record {
-  given_is = elim by [ | inl some ↦ missing_answers cause why some | inr none ↦ there_answers cause (reply.Refused why) none.0 (inr (inl (ap reply.Refused none.1))) ];
+  given_is = elim by [ inl some ↦ missing_answers cause why some | inr none ↦ there_answers cause (reply.Refused why) none.0 (inr (inl (ap reply.Refused none.1))) ];
   unchanged = λ other e running. subst (λ (h : Option History). IsIdle h after) was (idle same);
 }
 
