@@ -1,5 +1,5 @@
 -- What a delivery leaves of records, storage files and instances to the tasks beside it, by what an event makes of them.
-use Rattle.mail_save.proofs.Common.{◌≡◌, ◌≢◌, ◌≤◌, ◌+◌, ◌==◌, ℕ, cond, List, [], ◌∷◌, ◌++◌, take, drop, length, map, Option, Some, None, All, inl, inr, refl, sym, ◌∙◌, ap, subst, arith, filter, find, option_map, cases_eq, cond-false, ne_eqb, length-append, All-append, All-cons, All-nil, Detached}
+use Rattle.mail_save.proofs.Common.{◌≡◌, ◌≢◌, ◌≤◌, ◌+◌, ◌==◌, ℕ, false, cond, List, [], ◌∷◌, ◌++◌, take, drop, length, map, Option, Some, None, All, inl, inr, refl, sym, ◌∙◌, ap, subst, arith, filter, find, option_map, cases_eq, cond-false, ne_eqb, length-append, All-append, All-cons, All-nil, Detached}
 use Rattle.mail_save.proofs.Common.{DiskState, History, Between, reading, FileName, Mail, Inst, between-both, between-map, InstRow, FileNo, MapUid, MapMeaning, MapRecord, map_applied, number_at, record_at, files_of, part_row, next_id, instance_file, file-other, FilesValue, end_in, ending_at}
 use Rattle.mail_save.proofs.Common.{file_in, released_in, IsAddedTo, MailFile, Take, Known, New, Full, KeepsInstances, KeepsUids, StoreValue, Claims, IsSameOrSynced, LeavesOthers, LeavesUnlisted, HoldsRegion, HasAppended, ReadsSameMail, TakesWithHeader, WritesAttachment, entry_stored, PlacesParts}
 use Rattle.mail_save.proofs.Common.{TakesFileFor, TookAs, saved_row, SavedParts, SavedAt}

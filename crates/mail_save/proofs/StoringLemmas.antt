@@ -1,5 +1,5 @@
 -- What storing a record, and lowering its count, make of a store.
-use Rattle.mail_save.proofs.Common.{◌≡◌, ◌≤◌, ◌+◌, ℕ, List, [], Option, Some, None, Err, inl, inr, refl, sym, ◌∙◌, ap, subst, arith, All-nil, All-cons, History, Between, between-map, Highest, InstRow, MapEntry, MapUid, Refusal, HasRecord, MapFits, MapRecord, MapMeaning, map_applied, record_at}
+use Rattle.mail_save.proofs.Common.{◌≡◌, ◌≤◌, ◌<◌, ◌+◌, ℕ, true, List, [], Option, Some, None, Err, inl, inr, refl, sym, ◌∙◌, ap, subst, arith, All-nil, All-cons, History, Between, between-map, Highest, InstRow, MapEntry, MapUid, Refusal, HasRecord, MapFits, MapRecord, MapMeaning, map_applied, record_at}
 use Rattle.mail_save.proofs.Common.{files_of, StoresMessage, end_in, is_taken_in, released_in, due_at, KeepsStored, KeepsFirm, StoreValue, indexes_of, uid_refusal, entry_stored, entry_lowered, AreSpared, IsLeftAlone, LowersRecord, StoresNone, StoresPlaced, saved_row, SavedAt}
 use Rattle.std.proofs.Common.{Ok}
 use Rattle.std.specs.Prelude.{◌⊎◌, IfOk, IfErr, Result}

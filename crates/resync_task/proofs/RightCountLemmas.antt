@@ -1,5 +1,5 @@
 -- The last event of a resync: what it leaves to the tasks beside it, and that the counts are exact then.
-use Rattle.resync_task.proofs.Common.{◌≡◌, ◌≤◌, ◌<◌, ◌+◌, ◌==◌, ℕ, false, List, [], ◌∷◌, Option, Some, map, refl, sym, ◌∙◌, ap, subst, arith, Contains, count_by, sum_by, eqb-true, All-contains, All-nil, All-cons, History, Faults, MapCount, Lists, BoxMeaning, LogRow, MapFits, MapMeaning, MapRecord}
+use Rattle.resync_task.proofs.Common.{◌≡◌, ◌≤◌, ◌<◌, ◌+◌, ◌==◌, ℕ, false, List, [], ◌∷◌, Option, Some, inl, map, refl, sym, ◌∙◌, ap, subst, arith, Contains, count_by, sum_by, eqb-true, All-contains, All-nil, All-cons, History, Faults, MapCount, Lists, BoxMeaning, LogRow, MapFits, MapMeaning, MapRecord}
 use Rattle.resync_task.proofs.Common.{count_given, records_by_counted, refs_in, listed_of, due_at, listed_at, IsStore, StoreValue, indexes_of, listed_meant, wrong_of, seen_of, no_claims, ShowsSeen, PutsRight, corrected_map, StaysSo}
 use Rattle.std.specs.Prelude.{max}
 use Rattle.std.specs.Option.{IfSome}

@@ -1,9 +1,9 @@
-use Rattle.mail_ops.proofs.Common.{◌∙◌, sym, ap, subst, arith, refl, ℕ, [], All-nil, All-cons, row_of, not_true, ok_is_none, BoxTook, BoxFell}
+use Rattle.mail_ops.proofs.Common.{Some, ◌∙◌, sym, ap, subst, arith, refl, ℕ, [], All-nil, All-cons, row_of, not_true, ok_is_none, BoxTook, BoxFell}
 use Rattle.std.proofs.Common.{Err}
 use Rattle.mdbox_base.specs.declared.entries.BoxEntry.TheVariants as box_entry
 use Rattle.model_store.specs.Opening.{HasItsRecord}
 use Rattle.mail_ops.proofs.CopyCallLemmas.{row_sound, held_row}
-use Rattle.mail_ops.proofs.MessageLemmas.{record_of_row}
+use Rattle.mail_ops.proofs.MessageLemmas.{from_source, record_of_row}
 use Rattle.mail_ops.proofs.copying.add.Goals as goal
 
 pub append_box-requires-clause-fits : goal.append_box-requires-clause-fits
@@ -21,6 +21,7 @@ pub returns-in-Ok-clause-added : goal.returns-in-Ok-clause-added
 returns-in-Ok-clause-added g c =
     let at = c.in_ok-row.ensures.found in
     let row = row_of c.in_ok-row.field-0.row in
+    let same = from_source c.args.name.now at.source c.args.source.0 at.source c.args.store.now at.from.box.number_is (c.in_ok-row.ensures.source ∙ ap Some c.if-now-began.false) refl in
     let o = c.in-Ok.ensures in
     record {
       row = row;
@@ -56,6 +57,7 @@ pub returns-in-Err-Stopped-clause-refused : goal.returns-in-Err-Stopped-clause-r
 returns-in-Err-Stopped-clause-refused g c =
     let at = c.in_ok-row.ensures.found in
     let row = row_of c.in_ok-row.field-0.row in
+    let same = from_source c.args.name.now at.source c.args.source.0 at.source c.args.store.now at.from.box.number_is (c.in_ok-row.ensures.source ∙ ap Some c.if-now-began.false) refl in
     let o = c.in-Err-Stopped.ensures in
     record {
       row = row;
