@@ -1,5 +1,5 @@
 -- What the step of a deletion says, event by event.
-use Rattle.mail_ops.proofs.Common.{◌≡◌, ◌≤◌, ◌<◌, ◌==◌, ◌⊎◌, cond, eqb-true, ℕ, Bool, true, false, not, List, Option, Some, None, refl, sym, ◌∙◌, ap, subst, arith, inl, inr, All, filter, History, Faults, BoxNo, Did, Progress, Refusal, Lists, MapBox, MapMeaning, map_applied, KeepsRest, KeepsUids, due_at}
+use Rattle.mail_ops.proofs.Common.{◌≡◌, ◌≤◌, ◌<◌, ◌==◌, ◌⊎◌, cond, eqb-true, ℕ, Bool, true, false, not, List, [], ◌∷◌, Option, Some, None, refl, sym, ◌∙◌, ap, subst, arith, inl, inr, All, filter, History, Faults, BoxNo, Did, Progress, Refusal, Lists, MapBox, MapMeaning, map_applied, KeepsRest, KeepsUids, due_at}
 use Rattle.mail_ops.proofs.Common.{has_made_log, IsStore, StoreValue, indexes_of, ended_by, refusal_told, told_as, IsStoppedSo, HasChangedDisk, FellChanging, NotDone, SyncsMail, ChangesOnlyLogs, eq-eqb}
 use Rattle.std.specs.Prelude.{◌≢◌, Contains, max}
 use Rattle.std.proofs.lemmas.List.Elements.{All-nil, All-cons, All-contains}
