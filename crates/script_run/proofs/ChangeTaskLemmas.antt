@@ -21,7 +21,6 @@ use Rattle.lane_tasks.specs.Tasks.{BeginsTask}
 use Rattle.lane_tasks.specs.declared.task.Task.{Task}
 use Rattle.lane_tasks.specs.declared.task.Task.TheVariants as task
 use Rattle.lane_tasks.proofs.StepLemmas.{ops_asked}
-use Rattle.script_run.specs.One.{IsChangeAnswer}
 use Rattle.script_run.proofs.OneTaskLemmas.{IsChangeTold, KeepsAlone, missing_answers, one_refusal, some_reply, there_answers, told_so}
 
 -- ---- what is replied
