@@ -62,7 +62,9 @@ impl GateLog {
     /// What is true of every log.
     pub fn known_facts(&self)
         ensures end { self.now.end < 2 ^ 64 }
-    {}
+    {
+        let _ = &self.end;
+    }
 
     /// How many octets of an entry, and 5 for each entry, the log can add without memory.
     pub fn room(&self) -> usize

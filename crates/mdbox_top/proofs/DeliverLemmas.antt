@@ -330,6 +330,6 @@ alone_done (request.Expunge name uid) prepared given old new began now w k messa
 alone_done (request.Copy name uid target) prepared given old new began now w k message answer show = done_alone (request.Copy name uid target) given old new began now w tt answer
 alone_done (request.Move name uid target) prepared given old new began now w k message answer show = done_alone (request.Move name uid target) given old new began now w tt answer
 alone_done (request.Make name) prepared given old new began now w k message answer show = done_alone (request.Make name) given old new began now w tt answer
-alone_done (request.Delete name) prepared given old new began now w k message answer show = absurd message.0
-alone_done (request.Rename name target) prepared given old new began now w k message answer show = absurd message.0
+alone_done (request.Delete name) prepared given old new began now w k message answer show = done_alone (request.Delete name) given old new began now w tt answer
+alone_done (request.Rename name target) prepared given old new began now w k message answer show = done_alone (request.Rename name target) given old new began now w tt answer
 alone_done request.Counts prepared given old new began now w k message answer show = done_alone request.Counts given old new began now w tt answer

@@ -11,7 +11,7 @@ use Rattle.mdbox_base.specs.declared.script.JournalEntry.{JournalEntry}
 use Rattle.model_lists.specs.Lists.{Lists}
 use Rattle.model_meaning.specs.MapMeaning.{MapMeaning, map_meaning}
 use Rattle.model_store.specs.Listing.{listing_of, meaning_named, ShowLists}
-use Rattle.list_machine.specs.Machine.{PartAnswers, is_step, set_flags}
+use Rattle.list_machine.specs.Machine.{PartAnswers, delete_mailbox, is_step, rename_mailbox, set_flags}
 use Rattle.list_machine.specs.Run.{EventPart, First, Run, RunEvent, map_of}
 use Rattle.list_machine.proofs.OneStepLemmas.{answers_one}
 use Rattle.script_run.specs.Done.{IsScriptDone, MayBeServed}
@@ -44,9 +44,11 @@ use Rattle.script_run.specs.Opening.{LogsShowLists}
 use Rattle.script_run.proofs.DoneLemmas.{settled_safe}
 use Rattle.mdbox_top.specs.Changed.{ChangeMoments, ChangeRests, LeavesMail, OpensChanged}
 use Rattle.mdbox_top.specs.CopyRun.{IsCopyReply}
-use Rattle.mdbox_top.specs.ExpungeRun.{IsExpungeReply, lists_without}
+use Rattle.mdbox_top.specs.DeleteRun.{IsDeleteReply}
+use Rattle.mdbox_top.specs.ExpungeRun.{IsExpungeReply, lists_without_message}
 use Rattle.mdbox_top.specs.FlagRun.{IsFlagReply}
 use Rattle.mdbox_top.specs.MoveRun.{IsMoveReply, MoveMoments, MoveRests}
+use Rattle.mdbox_top.specs.RenameRun.{IsRenameReply}
 use Rattle.mdbox_top.specs.Alone.{IsDoneAlone}
 use Rattle.mdbox_top.specs.CountsRun.{IsCountsReply, counts_of}
 use Rattle.mdbox_top.specs.ListRun.{IsListReply, ListMoments, ListRests}
@@ -77,6 +79,8 @@ reads_no_mail : (asked : Request) → MakesSteps asked → has_mail_read (alone 
 reads_no_mail (request.List name) one = refl
 reads_no_mail (request.Flag name uid flags) one = refl
 reads_no_mail (request.Make name) one = refl
+reads_no_mail (request.Delete name) one = refl
+reads_no_mail (request.Rename name target) one = refl
 reads_no_mail (request.Expunge name uid) one = refl
 reads_no_mail (request.Copy name uid target) one = refl
 reads_no_mail (request.Move name uid target) one = refl
@@ -301,7 +305,7 @@ flag_tells name uid flags given old new began now w =
 abbrev expunging : List ℕ → Uid → Request
 expunging name uid = request.Expunge name uid
 
-along_expunge : (name : List ℕ) (uid : Uid) (answer : Reply) (lists : Lists) → (lists_told (expunging name uid) answer lists ≡ lists) ⊎ (lists_told (expunging name uid) answer lists ≡ lists_without name uid lists)
+along_expunge : (name : List ℕ) (uid : Uid) (answer : Reply) (lists : Lists) → (lists_told (expunging name uid) answer lists ≡ lists) ⊎ (lists_told (expunging name uid) answer lists ≡ lists_without_message name uid lists)
 along_expunge name uid reply.Done lists = inr refl
 along_expunge name uid other lists = inl refl
 
@@ -325,7 +329,75 @@ expunge_tells name uid given old new began now w =
       opened = w.done.opened;
       given_is = w.told;
       refused = λ why is running. unchanged_since asked given w.entries old new began now w.done (w.undone (subst (λ (r : Reply). IsUndoneAlone (alone asked) (r ∷ [])) (sym is) running));
-      done = λ e. change_opens asked (lists_without name uid) given old new began now w k (done_runs given e) (λ lists. ap (λ (r : Reply). lists_told asked r lists) e);
+      done = λ e. change_opens asked (lists_without_message name uid) given old new began now w k (done_runs given e) (λ lists. ap (λ (r : Reply). lists_told asked r lists) e);
+      settled = change_settles asked given w.entries old new began now k;
+      mail = change_mail asked given w.entries old new began now k;
+    }
+
+-- ---- a deletion of a mailbox
+
+abbrev deleting : List ℕ → Request
+deleting name = request.Delete name
+
+along_delete : (name : List ℕ) (answer : Reply) (lists : Lists) → (lists_told (deleting name) answer lists ≡ lists) ⊎ (lists_told (deleting name) answer lists ≡ delete_mailbox name lists)
+along_delete name reply.Done lists = inr refl
+along_delete name other lists = inl refl
+
+delete_change : (name : List ℕ) (given : Reply) (old new : Option History) (began now : Faults) → (w : IsRequestDone (deleting name) given old new began now) → IsOneChange (deleting name) given w.entries old new began now
+delete_change name given old new began now w = record {
+  done = w.done;
+  one = tt;
+  calm = unread (deleting name) given w.entries old new began now w.done tt;
+  told = λ answer lists left is. is;
+  delivers = refl;
+}
+
+delete_tells : (name : List ℕ) (given : Reply) (old new : Option History) (began now : Faults) → IsRequestDone (deleting name) given old new began now → IsDeleteReply name old new given
+unfolding delete_change
+delete_tells name given old new began now w =
+    let asked : Request = deleting name in
+    let k = delete_change name given old new began now w in
+    record {
+      m = w.done.m;
+      meanings = w.done.meanings;
+      opened = w.done.opened;
+      given_is = w.told;
+      refused = λ why is running. unchanged_since asked given w.entries old new began now w.done (w.undone (subst (λ (r : Reply). IsUndoneAlone (alone asked) (r ∷ [])) (sym is) running));
+      done = λ e. change_opens asked (delete_mailbox name) given old new began now w k (done_runs given e) (λ lists. ap (λ (r : Reply). lists_told asked r lists) e);
+      settled = change_settles asked given w.entries old new began now k;
+      mail = change_mail asked given w.entries old new began now k;
+    }
+
+-- ---- a renaming of a mailbox
+
+abbrev renaming : List ℕ → List ℕ → Request
+renaming name target = request.Rename name target
+
+along_rename : (name target : List ℕ) (answer : Reply) (lists : Lists) → (lists_told (renaming name target) answer lists ≡ lists) ⊎ (lists_told (renaming name target) answer lists ≡ rename_mailbox name target lists)
+along_rename name target reply.Done lists = inr refl
+along_rename name target other lists = inl refl
+
+rename_change : (name target : List ℕ) (given : Reply) (old new : Option History) (began now : Faults) → (w : IsRequestDone (renaming name target) given old new began now) → IsOneChange (renaming name target) given w.entries old new began now
+rename_change name target given old new began now w = record {
+  done = w.done;
+  one = tt;
+  calm = unread (renaming name target) given w.entries old new began now w.done tt;
+  told = λ answer lists left is. is;
+  delivers = refl;
+}
+
+rename_tells : (name target : List ℕ) (given : Reply) (old new : Option History) (began now : Faults) → IsRequestDone (renaming name target) given old new began now → IsRenameReply name target old new given
+unfolding rename_change
+rename_tells name target given old new began now w =
+    let asked : Request = renaming name target in
+    let k = rename_change name target given old new began now w in
+    record {
+      m = w.done.m;
+      meanings = w.done.meanings;
+      opened = w.done.opened;
+      given_is = w.told;
+      refused = λ why is running. unchanged_since asked given w.entries old new began now w.done (w.undone (subst (λ (r : Reply). IsUndoneAlone (alone asked) (r ∷ [])) (sym is) running));
+      done = λ e. change_opens asked (rename_mailbox name target) given old new began now w k (done_runs given e) (λ lists. ap (λ (r : Reply). lists_told asked r lists) e);
       settled = change_settles asked given w.entries old new began now k;
       mail = change_mail asked given w.entries old new began now k;
     }
@@ -475,8 +547,8 @@ done_one (request.Expunge name uid) given old new began now w one answer make =
     let k = expunge_change name uid given old new began now w in
     record {
       tells = expunge_tells name uid given old new began now w;
-      moments = change_leaves (expunging name uid) (lists_without name uid) given w.entries old new began now k tt (along_expunge name uid);
-      rests = change_rests (expunging name uid) (lists_without name uid) given w.entries old new began now k (along_expunge name uid);
+      moments = change_leaves (expunging name uid) (lists_without_message name uid) given w.entries old new began now k tt (along_expunge name uid);
+      rests = change_rests (expunging name uid) (lists_without_message name uid) given w.entries old new began now k (along_expunge name uid);
       faults = one_faults (expunging name uid) given w.entries old new began now w.done tt k.calm;
     }
 done_one (request.Copy name uid target) given old new began now w one answer make =
@@ -494,6 +566,22 @@ done_one (request.Move name uid target) given old new began now w one answer mak
       moments = move_leaves name uid target given w.entries old new began now k;
       rests = move_rests name uid target given w.entries old new began now k;
       faults = one_faults (moving name uid target) given w.entries old new began now w.done tt k.calm;
+    }
+done_one (request.Delete name) given old new began now w one answer make =
+    let k = delete_change name given old new began now w in
+    record {
+      tells = delete_tells name given old new began now w;
+      moments = change_leaves (deleting name) (delete_mailbox name) given w.entries old new began now k tt (along_delete name);
+      rests = change_rests (deleting name) (delete_mailbox name) given w.entries old new began now k (along_delete name);
+      faults = one_faults (deleting name) given w.entries old new began now w.done tt k.calm;
+    }
+done_one (request.Rename name target) given old new began now w one answer make =
+    let k = rename_change name target given old new began now w in
+    record {
+      tells = rename_tells name target given old new began now w;
+      moments = change_leaves (renaming name target) (rename_mailbox name target) given w.entries old new began now k tt (along_rename name target);
+      rests = change_rests (renaming name target) (rename_mailbox name target) given w.entries old new began now k (along_rename name target);
+      faults = one_faults (renaming name target) given w.entries old new began now w.done tt k.calm;
     }
 done_one (request.Make name) given old new began now w one answer make = make name refl
 done_one other given old new began now w one answer make = absurd one

@@ -11,7 +11,7 @@ use Rattle.model_kept.proofs.KeptLemmas.{kept_begins}
 use Rattle.model_lists.specs.Lists.{Lists}
 use Rattle.model_meaning.specs.MapMeaning.{map_meaning}
 use Rattle.model_store.specs.Safe.{Safe}
-use Rattle.list_machine.specs.Machine.{set_flags}
+use Rattle.list_machine.specs.Machine.{delete_mailbox, rename_mailbox, set_flags}
 use Rattle.mail_ops.specs.Copy.{copied_lists}
 use Rattle.request_text.specs.Commands.{IsInRange, NamesMailbox}
 use Rattle.disk_model.specs.declared.name.FileName.{FileName}
@@ -35,7 +35,9 @@ use Rattle.script_run.specs.One.{moved_lists}
 use Rattle.mdbox_top.specs.CopyRun.{IsCopyReply}
 use Rattle.mdbox_top.specs.MakeRun.{IsMakeReply, AreMade}
 use Rattle.mdbox_top.specs.MoveRun.{IsMoveReply}
-use Rattle.mdbox_top.specs.ExpungeRun.{IsExpungeReply, lists_without}
+use Rattle.mdbox_top.specs.DeleteRun.{IsDeleteReply}
+use Rattle.mdbox_top.specs.RenameRun.{IsRenameReply}
+use Rattle.mdbox_top.specs.ExpungeRun.{IsExpungeReply, lists_without_message}
 use Rattle.mdbox_top.specs.CountsRun.{IsCountsReply}
 use Rattle.mdbox_top.specs.PurgeRun.{IsPurgeReply}
 use Rattle.mdbox_top.specs.ResyncRun.{IsResyncReply}
@@ -62,6 +64,8 @@ input_memory D (command.Expunge name uid) left told h k old new f g why e = absu
 input_memory D (command.Copy name uid target) left told h k old new f g why e = absurd (request_input (IsCopyReply name uid target) (request.Copy name uid target) h k old new f g why e)
 input_memory D (command.Move name uid target) left told h k old new f g why e = absurd (request_input (IsMoveReply name uid target) (request.Move name uid target) h k old new f g why e)
 input_memory D (command.Make name) left told h k old new f g why e = absurd (request_input (IsMakeReply name) (request.Make name) h k old new f g why e)
+input_memory D (command.Delete name) left told h k old new f g why e = absurd (request_input (IsDeleteReply name) (request.Delete name) h k old new f g why e)
+input_memory D (command.Rename name target) left told h k old new f g why e = absurd (request_input (IsRenameReply name target) (request.Rename name target) h k old new f g why e)
 input_memory D command.Boxes left told h k old new f g why e = absurd (boxes_input h k old new f g why e)
 input_memory D command.Counts left told h k old new f g why e = absurd (request_input IsCountsReply request.Counts h k old new f g why e)
 input_memory D command.Resync left told h k old new f g why e = absurd (request_input IsResyncReply request.Resync h k old new f g why e)
@@ -84,6 +88,8 @@ damage_memory D (command.Expunge box uid) left told h k old new f g name place e
 damage_memory D (command.Copy box uid target) left told h k old new f g name place e = request_damage (IsCopyReply box uid target) (request.Copy box uid target) h k old new f g (store.Damaged name place) e
 damage_memory D (command.Move box uid target) left told h k old new f g name place e = request_damage (IsMoveReply box uid target) (request.Move box uid target) h k old new f g (store.Damaged name place) e
 damage_memory D (command.Make box) left told h k old new f g name place e = request_damage (IsMakeReply box) (request.Make box) h k old new f g (store.Damaged name place) e
+damage_memory D (command.Delete box) left told h k old new f g name place e = request_damage (IsDeleteReply box) (request.Delete box) h k old new f g (store.Damaged name place) e
+damage_memory D (command.Rename box target) left told h k old new f g name place e = request_damage (IsRenameReply box target) (request.Rename box target) h k old new f g (store.Damaged name place) e
 damage_memory D command.Boxes left told h k old new f g name place e = boxes_damage h k old new f g (store.Damaged name place) e
 damage_memory D command.Counts left told h k old new f g name place e = request_damage IsCountsReply request.Counts h k old new f g (store.Damaged name place) e
 damage_memory D command.Resync left told h k old new f g name place e = request_damage IsResyncReply request.Resync h k old new f g (store.Damaged name place) e
@@ -129,6 +135,8 @@ has_status D (command.Expunge name uid) r left told h k old new f g o e = λ lis
 has_status D (command.Copy name uid target) r left told h k old new f g o e = λ lists s. request_status (IsCopyReply name uid target) (request.Copy name uid target) h k old new f g o e lists s
 has_status D (command.Move name uid target) r left told h k old new f g o e = λ lists s. request_status (IsMoveReply name uid target) (request.Move name uid target) h k old new f g o e lists s
 has_status D (command.Make name) r left told h k old new f g o e = λ lists s. request_status (IsMakeReply name) (request.Make name) h k old new f g o e lists s
+has_status D (command.Delete name) r left told h k old new f g o e = λ lists s. request_status (IsDeleteReply name) (request.Delete name) h k old new f g o e lists s
+has_status D (command.Rename name target) r left told h k old new f g o e = λ lists s. request_status (IsRenameReply name target) (request.Rename name target) h k old new f g o e lists s
 has_status D command.Boxes r left told h k old new f g o e = λ lists s. boxes_status h k old new f g o e lists s
 has_status D command.Counts r left told h k old new f g o e = λ lists s. counts_status h k old new f g o e lists s
 has_status D command.Resync r left told h k old new f g o e = λ lists s. resync_status h k old new f g o e lists s
@@ -153,6 +161,8 @@ used D (command.Expunge name uid) left told h k old new f g e = request_used (Is
 used D (command.Copy name uid target) left told h k old new f g e = request_used (IsCopyReply name uid target) (request.Copy name uid target) h k old new f g e
 used D (command.Move name uid target) left told h k old new f g e = request_used (IsMoveReply name uid target) (request.Move name uid target) h k old new f g e
 used D (command.Make name) left told h k old new f g e = request_used (IsMakeReply name) (request.Make name) h k old new f g e
+used D (command.Delete name) left told h k old new f g e = request_used (IsDeleteReply name) (request.Delete name) h k old new f g e
+used D (command.Rename name target) left told h k old new f g e = request_used (IsRenameReply name target) (request.Rename name target) h k old new f g e
 used D command.Boxes left told h k old new f g e = boxes_used h k old new f g e
 used D command.Counts left told h k old new f g e = request_used IsCountsReply request.Counts h k old new f g e
 used D command.Resync left told h k old new f g e = request_used IsResyncReply request.Resync h k old new f g e
@@ -295,6 +305,8 @@ named_unnoted (command.Expunge name uid) named now h f = (refl, refl)
 named_unnoted (command.Copy name uid target) named now h f = (refl, refl)
 named_unnoted (command.Move name uid target) named now h f = (refl, refl)
 named_unnoted (command.Make name) named now h f = (refl, refl)
+named_unnoted (command.Delete name) named now h f = (refl, refl)
+named_unnoted (command.Rename name target) named now h f = (refl, refl)
 named_unnoted other named now h f = absurd named
 
 -- ---- faults of the disk
@@ -324,6 +336,8 @@ fails_last (command.Expunge name uid) o last y e = one_last o last y e
 fails_last (command.Copy name uid target) o last y e = one_last o last y e
 fails_last (command.Move name uid target) o last y e = one_last o last y e
 fails_last (command.Make name) o last y e = one_last o last y e
+fails_last (command.Delete name) o last y e = one_last o last y e
+fails_last (command.Rename name target) o last y e = one_last o last y e
 fails_last command.Resync o last y e = one_last o last y e
 fails_last command.Purge o last y e = one_last o last y e
 fails_last (command.Batch lanes) o last y e = one_last o last y e
@@ -339,6 +353,8 @@ rests_last (command.Expunge name uid) left told F G f g old new h r = λ none. r
 rests_last (command.Copy name uid target) left told F G f g old new h r = λ none. r (λ failed. none (h failed))
 rests_last (command.Move name uid target) left told F G f g old new h r = λ none. r (λ failed. none (h failed))
 rests_last (command.Make name) left told F G f g old new h r = λ none. r (λ failed. none (h failed))
+rests_last (command.Delete name) left told F G f g old new h r = λ none. r (λ failed. none (h failed))
+rests_last (command.Rename name target) left told F G f g old new h r = λ none. r (λ failed. none (h failed))
 rests_last command.Boxes left told F G f g old new h r = λ none. r (λ failed. none (h failed))
 rests_last command.Counts left told F G f g old new h r = λ none. r (λ failed. none (h failed))
 rests_last command.Resync left told F G f g old new h r = λ none. r (λ failed. none (h failed))
@@ -359,6 +375,8 @@ named_unasked D (command.Expunge name uid) named left told h old f = unasked (Is
 named_unasked D (command.Copy name uid target) named left told h old f = unasked (IsCopyReply name uid target) (request.Copy name uid target) h old f
 named_unasked D (command.Move name uid target) named left told h old f = unasked (IsMoveReply name uid target) (request.Move name uid target) h old f
 named_unasked D (command.Make name) named left told h old f = unasked (IsMakeReply name) (request.Make name) h old f
+named_unasked D (command.Delete name) named left told h old f = unasked (IsDeleteReply name) (request.Delete name) h old f
+named_unasked D (command.Rename name target) named left told h old f = unasked (IsRenameReply name target) (request.Rename name target) h old f
 named_unasked D other named left told h old f = absurd named
 
 -- a listing of which no call is made
@@ -374,10 +392,12 @@ named_still (command.Deliver name) named left told h = inl refl
 named_still (command.List name) named left told h = still_moments h
 named_still (command.Fetch name uid) named left told h = still_moments h
 named_still (command.Flag name uid flags) named left told h = λ lists s. each_image-map (λ _ image. Safe image lists) (λ _ image. Safe image lists ⊎ Safe image (set_flags name uid.0 flags lists)) h h (λ m image safe. inl safe) (still_safe lists h s)
-named_still (command.Expunge name uid) named left told h = λ lists s. each_image-map (λ _ image. Safe image lists) (λ _ image. Safe image lists ⊎ Safe image (lists_without name uid lists)) h h (λ m image safe. inl safe) (still_safe lists h s)
+named_still (command.Expunge name uid) named left told h = λ lists s. each_image-map (λ _ image. Safe image lists) (λ _ image. Safe image lists ⊎ Safe image (lists_without_message name uid lists)) h h (λ m image safe. inl safe) (still_safe lists h s)
 named_still (command.Copy name uid target) named left told h = λ lists s. each_image-map (λ _ image. Safe image lists) (λ _ image. Safe image lists ⊎ Safe image (copied_lists name uid target lists)) h h (λ m image safe. inl safe) (still_safe lists h s)
 named_still (command.Move name uid target) named left told h = λ lists s. each_image-map (λ _ image. Safe image lists) (λ _ image. Safe image lists ⊎ (Safe image (copied_lists name uid target lists) ⊎ Safe image (moved_lists name uid target lists))) h h (λ m image safe. inl safe) (still_safe lists h s)
 named_still (command.Make name) named left told h = λ lists s. each_image-map (λ _ image. Safe image lists) (λ _ image. Safe image lists ⊎ ((some : Lists) × AreMade name h lists some × Safe image some)) h h (λ m image safe. inl safe) (still_safe lists h s)
+named_still (command.Delete name) named left told h = λ lists s. each_image-map (λ _ image. Safe image lists) (λ _ image. Safe image lists ⊎ Safe image (delete_mailbox name lists)) h h (λ m image safe. inl safe) (still_safe lists h s)
+named_still (command.Rename name target) named left told h = λ lists s. each_image-map (λ _ image. Safe image lists) (λ _ image. Safe image lists ⊎ Safe image (rename_mailbox name target lists)) h h (λ m image safe. inl safe) (still_safe lists h s)
 named_still other named left told h = absurd named
 
 pub named_rests : (c : Command) → NamesMailbox c → (left : Option (List ℕ)) (told : Option ℕ) (failed : Type 0) (f g : Faults) (h : Option History) → Rests c left told failed f g h h
@@ -389,4 +409,6 @@ named_rests (command.Expunge name uid) named left told failed f g h = λ none li
 named_rests (command.Copy name uid target) named left told failed f g h = λ none lists s. inl s
 named_rests (command.Move name uid target) named left told failed f g h = λ none lists s. inl s
 named_rests (command.Make name) named left told failed f g h = λ none lists s. inl s
+named_rests (command.Delete name) named left told failed f g h = λ none lists s. inl s
+named_rests (command.Rename name target) named left told failed f g h = λ none lists s. inl s
 named_rests other named left told failed f g h = absurd named

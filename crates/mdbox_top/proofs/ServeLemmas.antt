@@ -33,7 +33,7 @@ use Rattle.mdbox_top.specs.Alone.{ReplyTells, RequestMoments, RequestRests, MayF
 use Rattle.mdbox_top.proofs.RequestLemmas.{faulted_is, failed_outcome, failed_status}
 use Rattle.mdbox_top.proofs.ListLemmas.{list_calm, list_runs}
 use Rattle.mdbox_top.proofs.CountsLemmas.{counts_calm, counts_run}
-use Rattle.mdbox_top.specs.ExpungeRun.{lists_without}
+use Rattle.mdbox_top.specs.ExpungeRun.{lists_without_message}
 use Rattle.mdbox_top.proofs.MakeLemmas.{SafeForMade}
 
 -- ---- how it is printed
@@ -106,7 +106,7 @@ unopened_leaves request.Counts old new began now why u = record { safe = u.momen
 unopened_leaves request.Resync old new began now why u = u.moments
 unopened_leaves request.Purge old new began now why u = record { safe = u.moments; sealed = mail_keeps_sealed old new u.stays }
 unopened_leaves (request.Flag name uid flags) old new began now why u = change_unopened_leaves (set_flags name uid.0 flags) old new began now why u
-unopened_leaves (request.Expunge name uid) old new began now why u = change_unopened_leaves (lists_without name uid) old new began now why u
+unopened_leaves (request.Expunge name uid) old new began now why u = change_unopened_leaves (lists_without_message name uid) old new began now why u
 unopened_leaves (request.Copy name uid target) old new began now why u = change_unopened_leaves (copied_lists name uid target) old new began now why u
 unopened_leaves (request.Move name uid target) old new began now why u = λ lists at.
     each_image-map (λ _ image. Safe image lists) (λ _ image. Safe image lists ⊎ (Safe image (copied_lists name uid target lists) ⊎ Safe image (moved_lists name uid target lists))) old new (λ m image h. inl h) (u.moments lists at)

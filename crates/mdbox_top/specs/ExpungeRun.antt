@@ -20,8 +20,8 @@ use Rattle.mdbox_top.specs.Changed.{OpensChanged, ChangeMoments, ChangeRests, Le
 use Rattle.mdbox_top.specs.Served.{RequestOutcome}
 
 -- the lists without the message
-abbrev pub lists_without : List ℕ → Uid → Lists → Lists
-lists_without name uid lists = expunge name uid.0 lists
+abbrev pub lists_without_message : List ℕ → Uid → Lists → Lists
+lists_without_message name uid lists = expunge name uid.0 lists
 
 -- The reply to the expunge of this message, by what the logs mean from which the store opened. Where it is refused, or out of
 -- memory, the files open with the same logs, all that the store reads is carried over, and the disk was swept. Where it is
@@ -33,7 +33,7 @@ pub record IsExpungeReply (name : List ℕ) (uid : Uid) (old new : Option Histor
   pub opened : IsOpenedAs old m meanings
   pub given_is : IsChangeAnswer (missing_cause (meaning_named name m.boxes meanings) uid.0) given
   pub refused : (why : Refusal) → given ≡ reply.Refused why → (why ≡ refusal.Stopped → ⊥) → OpensUnchanged m meanings old new
-  pub done : given ≡ reply.Done → OpensChanged (lists_without name uid) m meanings new
+  pub done : given ≡ reply.Done → OpensChanged (lists_without_message name uid) m meanings new
   pub settled : (given ≡ reply.Refused refusal.Stopped → ⊥) → (lists : Lists) → IsSettledFor lists old → IsSettledFor (lists_told (request.Expunge name uid) given lists) new
   pub mail : LeavesMail m given old new
 
@@ -45,8 +45,8 @@ ExpungeOutcome D name uid = RequestOutcome D (IsExpungeReply name uid) (request.
 -- A crash at any moment leaves a disk that is safe for the lists for which it was settled, or for those without the message,
 -- whatever fails.
 abbrev pub ExpungeMoments : List ℕ → Uid → Option History → Option History → Type 0
-ExpungeMoments name uid old new = ChangeMoments (lists_without name uid) old new
+ExpungeMoments name uid old new = ChangeMoments (lists_without_message name uid) old new
 
 -- If no change of the disk failed, a disk that was settled for lists is settled for these, or for those without the message.
 abbrev pub ExpungeRests : List ℕ → Uid → Type 0 → Faults → Faults → Option History → Option History → Type 0
-ExpungeRests name uid failed began now old new = ChangeRests (lists_without name uid) failed began now old new
+ExpungeRests name uid failed began now old new = ChangeRests (lists_without_message name uid) failed began now old new

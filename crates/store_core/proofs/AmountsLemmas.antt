@@ -1,6 +1,6 @@
 -- The amounts of a mailbox: how often it lists each record, counted over the map uids in rising order.
 use Rattle.store_core.proofs.Common.{◌≡◌, ◌≢◌, ◌<◌, ◌≤◌, ◌+◌, ◌-◌, ◌==◌, ℕ, Bool, true, false, cond, if◌then◌else◌, suc, zero, List, [], ◌∷◌, ◌++◌, length, map, find, take, slice_index_or, slice_set, in_rows, count_by, Option, Some, None, All, AllPairs, option_map_or, refl, sym, ◌∙◌, ap, subst, arith}
-use Rattle.store_core.proofs.Common.{BoxRow, LogRow, row_of, All-nil, All-cons, All-head, All-tail, All-weaker, sum_by-cons, cond-true, cond-false, cases_eq, eq-eqb, inl, inr, ne_eqb, equal_is, length-map, pairs_head, pairs_tail}
+use Rattle.store_core.proofs.Common.{BoxRow, LogRow, row_of, All-nil, All-cons, All-head, All-tail, sum_by-cons, cond-true, cond-false, cases_eq, eq-eqb, inl, inr, ne_eqb, equal_is, length-map, pairs_head, pairs_tail}
 use Rattle.std.specs.List.Sorted.{IsNonDecreasing, IsPermutation, IsStrictlyIncreasing}
 use Rattle.std.proofs.lemmas.List.Sorted.{length_permutation, sum_by-IsPermutation}
 use Rattle.std.proofs.lemmas.List.{get_or-map, take_all}
@@ -10,7 +10,7 @@ use Rattle.std.proofs.lemmas.List.Sums.{sum_by_more, sum_by_more_le}
 use Rattle.mdbox_base.specs.declared.entries.MapCount.{MapCount}
 use Rattle.model_meaning.specs.MapMeaning.{count_given}
 use Rattle.model_octets.proofs.PairLemmas.{pairs_nil}
-use Rattle.store_core.specs.Deleting.{AreAmountsOf, with_one_more}
+use Rattle.store_core.specs.Deleting.{AreAmountsOf, with_uid_counted}
 
 abbrev Rise : MapCount → MapCount → Type 0
 Rise a b = a.uid.0 < b.uid.0
@@ -60,16 +60,16 @@ given_there (c ∷ cs) (suc i) d rising lt =
 -- ---- one more
 
 -- what holds of all, of those with one more of their own count, and of a new one, holds of all
-all_more : (P : MapCount → Type 0) (uid : ℕ) (cs : List MapCount) → ((c : MapCount) → P c → P (record c { count = c.count + 1 })) → P (fresh uid) → All P cs → All P (with_one_more uid cs)
+all_more : (P : MapCount → Type 0) (uid : ℕ) (cs : List MapCount) → ((c : MapCount) → P c → P (record c { count = c.count + 1 })) → P (fresh uid) → All P cs → All P (with_uid_counted uid cs)
 all_more P uid [] more new all = All-cons P (fresh uid) [] new (All-nil P)
 all_more P uid (c ∷ []) more new all = by_test (c.uid.0 == uid)
   where
     by_test : (t : Bool) → All P (if t then record c { count = c.count + 1 } ∷ [] else c ∷ fresh uid ∷ [])
     by_test true = All-cons P (record c { count = c.count + 1 }) [] (more c (All-head P c [] all)) (All-nil P)
     by_test false = All-cons P c (fresh uid ∷ []) (All-head P c [] all) (All-cons P (fresh uid) [] new (All-nil P))
-all_more P uid (c ∷ d ∷ rest) more new all = All-cons P c (with_one_more uid (d ∷ rest)) (All-head P c (d ∷ rest) all) (all_more P uid (d ∷ rest) more new (All-tail P c (d ∷ rest) all))
+all_more P uid (c ∷ d ∷ rest) more new all = All-cons P c (with_uid_counted uid (d ∷ rest)) (All-head P c (d ∷ rest) all) (all_more P uid (d ∷ rest) more new (All-tail P c (d ∷ rest) all))
 
-rise_more : (uid : ℕ) (cs : List MapCount) → AllPairs Rise cs → All (UpTo uid) cs → AllPairs Rise (with_one_more uid cs)
+rise_more : (uid : ℕ) (cs : List MapCount) → AllPairs Rise cs → All (UpTo uid) cs → AllPairs Rise (with_uid_counted uid cs)
 rise_more uid [] rise up = AllPairs-cons Rise (fresh uid) [] (All-nil (Rise (fresh uid))) (pairs_nil Rise)
 rise_more uid (c ∷ []) rise up = by_test (c.uid.0 == uid) refl
   where
@@ -83,10 +83,10 @@ rise_more uid (c ∷ d ∷ rest) rise up =
     let least : d.uid.0 ≤ uid = All-head (UpTo uid) d rest (All-tail (UpTo uid) c (d ∷ rest) up) in
     let above : All (Rise c) (d ∷ rest) = pairs_head Rise c (d ∷ rest) rise in
     let less : c.uid.0 < d.uid.0 = All-head (Rise c) d rest above in
-    AllPairs-cons Rise c (with_one_more uid (d ∷ rest)) (all_more (Rise c) uid (d ∷ rest) (λ x h. h) (omega (arith, less, least)) above)
+    AllPairs-cons Rise c (with_uid_counted uid (d ∷ rest)) (all_more (Rise c) uid (d ∷ rest) (λ x h. h) (omega (arith, less, least)) above)
     (rise_more uid (d ∷ rest) (pairs_tail Rise c (d ∷ rest) rise) (All-tail (UpTo uid) c (d ∷ rest) up))
 
-long_more : (uid : ℕ) (cs : List MapCount) → length (with_one_more uid cs) ≤ length cs + 1
+long_more : (uid : ℕ) (cs : List MapCount) → length (with_uid_counted uid cs) ≤ length cs + 1
 long_more uid [] = omega arith
 long_more uid (c ∷ []) = by_test (c.uid.0 == uid)
   where
@@ -108,7 +108,7 @@ at_first true c found = refl
 at_first false c found = refl
 
 -- it rises of this map uid alone
-given_more : (uid k : ℕ) (cs : List MapCount) → AllPairs Rise cs → All (UpTo uid) cs → amount k (with_one_more uid cs) ≡ amount k cs + cond (uid == k) 1 0
+given_more : (uid k : ℕ) (cs : List MapCount) → AllPairs Rise cs → All (UpTo uid) cs → amount k (with_uid_counted uid cs) ≡ amount k cs + cond (uid == k) 1 0
 given_more uid k [] rise up = by_test (uid == k)
   where
     by_test : (t : Bool) → option_map_or (λ (x : MapCount). x.count) (cond t (Some (fresh uid)) None) 0 ≡ 0 + cond t 1 0
@@ -124,10 +124,10 @@ given_more uid k (c ∷ []) rise up = by_test (c.uid.0 == uid) refl
     same false = refl
 
     new : (s r : Bool) → (c.uid.0 == k) ≡ s → (uid == k) ≡ r → (c.uid.0 == uid) ≡ false → cond s c.count (cond r 1 0) ≡ cond s c.count 0 + cond r 1 0
-    new true true a b no = absurd (let e : c.uid.0 ≡ uid = equal_is c.uid.0 k a ∙ sym (equal_is uid k b) in let w : true ≡ false = sym (eq-eqb c.uid.0 uid e) ∙ no in cc w)
-    new true false a b no = omega arith
-    new false true a b no = refl
-    new false false a b no = refl
+    new true true a b unlike = absurd (let e : c.uid.0 ≡ uid = equal_is c.uid.0 k a ∙ sym (equal_is uid k b) in let w : true ≡ false = sym (eq-eqb c.uid.0 uid e) ∙ unlike in cc w)
+    new true false a b unlike = omega arith
+    new false true a b unlike = refl
+    new false false a b unlike = refl
 
     by_test : (t : Bool) → (c.uid.0 == uid) ≡ t → amount k (if t then record c { count = c.count + 1 } ∷ [] else c ∷ fresh uid ∷ []) ≡ amount k (c ∷ []) + cond (uid == k) 1 0
     by_test true t =
@@ -135,7 +135,7 @@ given_more uid k (c ∷ []) rise up = by_test (c.uid.0 == uid) refl
     by_test false t =
         at_first (c.uid.0 == k) c (find (λ (x : MapCount). x.uid.0 == k) (fresh uid ∷ [])) ∙ ap (λ (n : ℕ). cond (c.uid.0 == k) c.count n) (at_first (uid == k) (fresh uid) None) ∙ new (c.uid.0 == k) (uid == k) refl refl t ∙ ap (λ (n : ℕ). n + cond (uid == k) 1 0) (sym before)
 given_more uid k (c ∷ d ∷ rest) rise up =
-    at_first (c.uid.0 == k) c (find (λ (x : MapCount). x.uid.0 == k) (with_one_more uid (d ∷ rest)))
+    at_first (c.uid.0 == k) c (find (λ (x : MapCount). x.uid.0 == k) (with_uid_counted uid (d ∷ rest)))
     ∙ by_test (c.uid.0 == k) refl (given_more uid k (d ∷ rest) (pairs_tail Rise c (d ∷ rest) rise) (All-tail (UpTo uid) c (d ∷ rest) up))
     ∙ ap (λ (n : ℕ). n + cond (uid == k) 1 0) (sym (at_first (c.uid.0 == k) c (find (λ (x : MapCount). x.uid.0 == k) (d ∷ rest))))
   where
@@ -145,8 +145,8 @@ given_more uid k (c ∷ d ∷ rest) rise up =
     less : c.uid.0 < d.uid.0
     less = All-head (Rise c) d rest (pairs_head Rise c (d ∷ rest) rise)
 
-    by_test : (t : Bool) → (c.uid.0 == k) ≡ t → amount k (with_one_more uid (d ∷ rest)) ≡ amount k (d ∷ rest) + cond (uid == k) 1 0 → cond t c.count (amount k (with_one_more uid (d ∷ rest))) ≡ cond t c.count (amount k (d ∷ rest)) + cond (uid == k) 1 0
-    by_test true t h = let e = equal_is c.uid.0 k t in let no = cond-false (uid == k) 1 0 (ne_eqb uid k (λ (q : uid ≡ k). omega (arith, e, q, less, least))) in omega (arith, no)
+    by_test : (t : Bool) → (c.uid.0 == k) ≡ t → amount k (with_uid_counted uid (d ∷ rest)) ≡ amount k (d ∷ rest) + cond (uid == k) 1 0 → cond t c.count (amount k (with_uid_counted uid (d ∷ rest))) ≡ cond t c.count (amount k (d ∷ rest)) + cond (uid == k) 1 0
+    by_test true t h = let e = equal_is c.uid.0 k t in let no = cond-false {A = ℕ} (uid == k) 1 0 (ne_eqb uid k (λ (q : uid ≡ k). omega (arith, e, q, less, least))) in omega (arith, no)
     by_test false t h = h
 
 -- ---- a walk over the map uids
@@ -167,7 +167,7 @@ none_first uid (u ∷ us) = refl
 pub counting_begins : (uids : List ℕ) → Counting uids 0 []
 counting_begins uids = record { rise = pairs_nil Rise; some = All-nil (λ (c : MapCount). 1 ≤ c.count); given = λ uid. none_first uid uids; within = omega arith; few = omega arith; up = λ j d le lt. All-nil (UpTo (slice_index_or uids j d)) }
 
-pub counting_goes_on : (uids : List ℕ) (i d uid : ℕ) (amounts : List MapCount) → IsNonDecreasing uids → i < length uids → uid ≡ slice_index_or uids i d → Counting uids i amounts → Counting uids (i + 1) (with_one_more uid amounts)
+pub counting_goes_on : (uids : List ℕ) (i d uid : ℕ) (amounts : List MapCount) → IsNonDecreasing uids → i < length uids → uid ≡ slice_index_or uids i d → Counting uids i amounts → Counting uids (i + 1) (with_uid_counted uid amounts)
 counting_goes_on uids i d uid amounts sorted within is c =
     let up : All (UpTo uid) amounts = subst (λ (u : ℕ). All (UpTo u) amounts) (sym is) (c.up i d (omega arith) within) in
     record {
@@ -193,7 +193,7 @@ counting_has_room uids i d uid amounts most within is c = λ k e lt same.
     let own : amount uid amounts ≡ it.count = ap (λ (u : ℕ). amount u amounts) (sym same) ∙ given_there amounts k e c.rise lt in
     let before = c.given uid in
     let whole = sum_by_more_le (λ (u : ℕ). hit u uid) uids i d within in
-    let here : hit (slice_index_or uids i d) uid ≡ 1 = cond-true (slice_index_or uids i d == uid) 1 0 (eq-eqb (slice_index_or uids i d) uid (sym is)) in
+    let here : hit (slice_index_or uids i d) uid ≡ 1 = cond-true {A = ℕ} (slice_index_or uids i d == uid) 1 0 (eq-eqb (slice_index_or uids i d) uid (sym is)) in
     let few = most uid in
     omega (arith, own, before, whole, here, few)
 
@@ -237,30 +237,36 @@ few_sorted rows sorted now same is few uid =
 
 -- ---- the last amount
 
-raised_at : (uid : ℕ) (c : MapCount) (rest : List MapCount) (last : MapCount) → last ≡ slice_index_or (c ∷ rest) (length rest) last → (last.uid.0 == uid) ≡ true → slice_set (c ∷ rest) (length rest) (record last { count = last.count + 1 }) ≡ with_one_more uid (c ∷ rest)
+raised_at : (uid : ℕ) (c : MapCount) (rest : List MapCount) (last : MapCount) → last ≡ slice_index_or (c ∷ rest) (length rest) last → (last.uid.0 == uid) ≡ true → slice_set (c ∷ rest) (length rest) (record last { count = last.count + 1 }) ≡ with_uid_counted uid (c ∷ rest)
 raised_at uid c [] last is same =
     let here : last ≡ c = is in
     ap (λ (x : MapCount). record x { count = x.count + 1 } ∷ []) here ∙ sym (cond-true (c.uid.0 == uid) (record c { count = c.count + 1 } ∷ []) (c ∷ fresh uid ∷ []) (ap (λ (x : MapCount). x.uid.0 == uid) (sym here) ∙ same))
 raised_at uid c (d ∷ rest) last is same = ap (λ (cs : List MapCount). c ∷ cs) (raised_at uid d rest last is same)
 
-pub raised_last : (uid n : ℕ) (items : List MapCount) (last : MapCount) → n ≡ length items → 0 < n → last ≡ slice_index_or items (n - 1) last → last.uid.0 ≡ uid → slice_set items (n - 1) (record last { count = last.count + 1 }) ≡ with_one_more uid items
+pub raised_last : (uid n : ℕ) (items : List MapCount) (last : MapCount) → n ≡ length items → 0 < n → last ≡ slice_index_or items (n - 1) last → last.uid.0 ≡ uid → slice_set items (n - 1) (record last { count = last.count + 1 }) ≡ with_uid_counted uid items
 raised_last uid n [] last long some is same = absurd (omega (arith, long, some))
 raised_last uid n (c ∷ rest) last long some is same =
     let at : n - 1 ≡ length rest = omega (arith, long) in
     ap (λ (k : ℕ). slice_set (c ∷ rest) k (record last { count = last.count + 1 })) at ∙ raised_at uid c rest last (is ∙ ap (λ (k : ℕ). slice_index_or (c ∷ rest) k last) at) (eq-eqb last.uid.0 uid same)
 
-pushed_at : (uid : ℕ) (c : MapCount) (rest : List MapCount) (last : MapCount) → last ≡ slice_index_or (c ∷ rest) (length rest) last → (last.uid.0 == uid) ≡ false → (c ∷ rest) ++ fresh uid ∷ [] ≡ with_one_more uid (c ∷ rest)
+pushed_at : (uid : ℕ) (c : MapCount) (rest : List MapCount) (last : MapCount) → last ≡ slice_index_or (c ∷ rest) (length rest) last → (last.uid.0 == uid) ≡ false → (c ∷ rest) ++ fresh uid ∷ [] ≡ with_uid_counted uid (c ∷ rest)
 pushed_at uid c [] last is unlike =
     let here : last ≡ c = is in
     sym (cond-false (c.uid.0 == uid) (record c { count = c.count + 1 } ∷ []) (c ∷ fresh uid ∷ []) (ap (λ (x : MapCount). x.uid.0 == uid) (sym here) ∙ unlike))
 pushed_at uid c (d ∷ rest) last is unlike = ap (λ (cs : List MapCount). c ∷ cs) (pushed_at uid d rest last is unlike)
 
-pub pushed_last : (uid n : ℕ) (items : List MapCount) (last : MapCount) → n ≡ length items → 0 < n → last ≡ slice_index_or items (n - 1) last → last.uid.0 ≢ uid → items ++ fresh uid ∷ [] ≡ with_one_more uid items
+pushed_last : (uid n : ℕ) (items : List MapCount) (last : MapCount) → n ≡ length items → 0 < n → last ≡ slice_index_or items (n - 1) last → last.uid.0 ≢ uid → items ++ fresh uid ∷ [] ≡ with_uid_counted uid items
 pushed_last uid n [] last long some is unlike = absurd (omega (arith, long, some))
 pushed_last uid n (c ∷ rest) last long some is unlike =
     let at : n - 1 ≡ length rest = omega (arith, long) in
     pushed_at uid c rest last (is ∙ ap (λ (k : ℕ). slice_index_or (c ∷ rest) k last) at) (ne_eqb last.uid.0 uid unlike)
 
-pub pushed_first : (uid n : ℕ) (items : List MapCount) → n ≡ length items → n ≡ 0 → items ++ fresh uid ∷ [] ≡ with_one_more uid items
-pushed_first uid n [] long none = refl
-pushed_first uid n (c ∷ rest) long none = absurd (omega (arith, long, none))
+-- what was read is put back
+set_back : (k : ℕ) (items : List MapCount) (last : MapCount) → last ≡ slice_index_or items k last → k < length items → slice_set items k last ≡ items
+set_back k [] last is lt = absurd (omega (arith, lt))
+set_back zero (c ∷ rest) last is lt = let here : last ≡ c = is in ap (λ (x : MapCount). x ∷ rest) here
+set_back (suc k) (c ∷ rest) last is lt = ap (λ (cs : List MapCount). c ∷ cs) (set_back k rest last is (omega (arith, lt)))
+
+pub pushed_back : (uid n : ℕ) (items : List MapCount) (last : MapCount) → n ≡ length items → 0 < n → last ≡ slice_index_or items (n - 1) last → last.uid.0 ≢ uid → slice_set items (n - 1) last ++ fresh uid ∷ [] ≡ with_uid_counted uid items
+pushed_back uid n items last long some is unlike =
+    ap (λ (cs : List MapCount). cs ++ fresh uid ∷ []) (set_back (n - 1) items last is (omega (arith, long, some))) ∙ pushed_last uid n items last long some is unlike

@@ -1,6 +1,6 @@
 -- A store that deletes a mailbox or gives it another name, by what the calls have at hand.
 use Rattle.store_core.proofs.Common.{◌≡◌, ◌≢◌, ◌<◌, ◌≤◌, ◌+◌, ◌-◌, ◌==◌, ℕ, Bool, true, false, not, cond, List, [], ◌∷◌, length, map, filter, count_by, sum_by, slice_index_or, Option, Some, None, All, AllPairs, refl, sym, ◌∙◌, ap, subst, arith, inl, inr, cases_eq, list_any, ◌⊎◌, if◌then◌else◌, All-filter, All-head, All-tail, All-nil, All-cons, equal_is, pairs_head, pairs_tail, box_meaning}
-use Rattle.store_core.proofs.Common.{History, SameButFor, FileName, LogState, BoxEntry, BoxNo, Highest, MapEntry, BoxMeaning, LogRow, MapFits, MapBox, MapMeaning, MapRecord, map_applied, record_changed, head_of, listed_of, meaning_numbered, number_beside, due_at, leak_at, listed_at, HaveOtherNumbers, IsMadeLog, IsUnnamed, KeepsMadeLogs, has_made_log}
+use Rattle.store_core.proofs.Common.{History, SameButFor, FileName, LogState, BoxNo, Highest, MapEntry, BoxMeaning, LogRow, MapFits, MapBox, MapMeaning, MapRecord, map_applied, record_changed, head_of, listed_of, meaning_numbered, number_beside, due_at, leak_at, listed_at, HaveOtherNumbers, IsMadeLog, IsUnnamed, KeepsMadeLogs}
 use Rattle.store_core.proofs.Common.{◌++◌, MapInRange, IsSameLog, Reads, map_text, IsStore, HasEntryRoom, StoreValue, indexes_of, list_numbered, entry_room, OpenBox, without_box, AreBoxLogs}
 use Rattle.std.specs.Option.{IfSome}
 use Rattle.std.proofs.lemmas.List.Kept.{AllPairs-cons}
@@ -16,8 +16,8 @@ use Rattle.model_meaning.proofs.AppliedLemmas.{boxes_by_deleted, boxes_by_rename
 use Rattle.model_octets.proofs.PairLemmas.{all_map, pairs_nil}
 use Rattle.store_core.specs.Beside.{in_rows}
 use Rattle.store_core.specs.Deleting.{AreAmounts, AreAmountsOf, IsDeletionOf}
-use Rattle.store_core.specs.Keeping.{KeepsUid, KeepsUids}
-use Rattle.store_core.specs.MadeLogs.{IsGone, KeepsGone}
+use Rattle.store_core.specs.Keeping.{KeepsUids}
+use Rattle.store_core.specs.MadeLogs.{KeepsGone}
 use Rattle.store_core.proofs.BoxAppendLemmas.{store_sound}
 use Rattle.store_core.proofs.ChangingLemmas.{Changing, store_changed}
 use Rattle.store_core.proofs.DeletingLemmas.{are_amounts, deleting, few_listed, listed_falls}
@@ -26,7 +26,7 @@ use Rattle.store_core.proofs.LeavingBoxLemmas.{beside_map, boxes_beside, numbere
 use Rattle.store_core.proofs.MadeLogLemmas.{IsHeldBy, apart_from, held_beside}
 use Rattle.store_core.proofs.MapAppendLemmas.{listed_there, prepared, prepared_store}
 use Rattle.store_core.proofs.MapDueLemmas.{beside_changed}
-use Rattle.store_core.proofs.RenamingLemmas.{renaming, same_records}
+use Rattle.store_core.proofs.RenamingLemmas.{renaming}
 
 -- ---- the store in which memory was made
 
@@ -49,10 +49,10 @@ can_rename h v now log mailbox name s is running same named fits =
 -- ---- what the store keeps
 
 -- where the entry is known under another name
-pub store_after_change : {D : Type 0} → (old new : Option History) (v : StoreValue D) (disk : D) (ready log : LogState) (e given : MapEntry) (m : MapMeaning) (boxes now : List OpenBox) → Changing old (prepared v ready v.map v.dues) e boxes → IsSameLog ready log → SameButFor ready.name old new
+pub store_after_change : {D : Type 0} → (old new : Option History) (v : StoreValue D) (disk : D) (ready log : LogState) (e given : MapEntry) (m : MapMeaning) (boxes now : List OpenBox) → IsStore old v → Changing old (prepared v ready v.map v.dues) e boxes → IsSameLog ready log → SameButFor ready.name old new
     → ((texts : List (List ℕ)) → Reads ready texts old → Reads log (texts ++ map_text given ∷ []) new) → given ≡ e → m ≡ map_applied e v.map → now ≡ boxes
     → IsStore new (record v { disk = disk; map_log = log; map = m; boxes = now })
-store_after_change old new v disk ready log e given m boxes now c same others added is applied left =
+store_after_change old new v disk ready log e given m boxes now s c same others added is applied left =
     subst (λ (x : MapMeaning). IsStore new (record v { disk = disk; map_log = log; map = x; boxes = now })) (sym applied)
     (subst (λ (bs : List OpenBox). IsStore new (record v { disk = disk; map_log = log; map = map_applied e v.map; boxes = bs })) (sym left)
     (store_changed old new (prepared v ready v.map v.dues) disk e boxes log c same others (subst (λ (x : MapEntry). (texts : List (List ℕ)) → Reads ready texts old → Reads log (texts ++ map_text x ∷ []) new) is added)))

@@ -1,17 +1,15 @@
 -- A mailbox that is deleted: what its entry says fits, and what is listed and counted of each record falls by as much.
-use Rattle.store_core.proofs.Common.{◌≡◌, ◌≢◌, ◌<◌, ◌≤◌, ◌+◌, ◌-◌, ◌^◌, ◌==◌, ℕ, Bool, true, false, not, if◌then◌else◌, cond, suc, List, [], ◌∷◌, ◌++◌, length, map, filter, find, slice_index_or, count_by, sum_by, Option, Some, None, All, AllPairs, Contains, option_map, option_map_or, refl, sym, ◌∙◌, ap, subst, arith}
-use Rattle.store_core.proofs.Common.{All-head, All-tail, All-weaker, All-contains, All-filter, sum_by-cons, cond-true, cond-false, eq-eqb, ne_eqb, length-map, pairs_tail, zero, equal_is, found_one, found_holds, History, BoxEntry, BoxNo, Highest, MapEntry, IsAccounted, accounted_counted, MapInRange, map_more, BoxMeaning, LogRow, box_meaning, rows_after}
-use Rattle.store_core.proofs.Common.{MapFits, HasRecord, MapBox, MapMeaning, MapRecord, map_meaning, map_applied, record_at, record_changed, IsSoundMap, IsSoundRecord, AreGoodLogs, HasItsRecord, IsCounted, listed_of, meaning_numbered, number_beside, due_at, leak_at, listed_at, CoverDues, IsUpTo, IsStore}
+use Rattle.store_core.proofs.Common.{◌≡◌, ◌<◌, ◌≤◌, ◌+◌, ◌^◌, ◌==◌, ℕ, Bool, true, false, not, cond, suc, List, [], ◌∷◌, length, map, filter, find, slice_index_or, count_by, Option, Some, None, All, option_map_or, refl, sym, ◌∙◌, ap, subst, arith}
+use Rattle.store_core.proofs.Common.{All-head, All-tail, All-weaker, All-contains, sum_by-cons, length-map, zero, equal_is, found_one, found_holds, History, BoxEntry, BoxNo, Highest, MapEntry, IsAccounted, accounted_counted, map_more, BoxMeaning, LogRow, box_meaning, rows_after}
+use Rattle.store_core.proofs.Common.{MapFits, HasRecord, MapBox, MapMeaning, MapRecord, map_meaning, map_applied, record_at, record_changed, IsSoundMap, IsSoundRecord, HasItsRecord, IsCounted, listed_of, meaning_numbered, leak_at, CoverDues, IsUpTo, IsStore}
 use Rattle.store_core.proofs.Common.{AreBoxLogs, ReadBoxLogs, StoreValue, indexes_of, list_numbered, OpenBox, without_box}
 use Rattle.std.specs.List.{AllByRecursion}
-use Rattle.std.specs.List.Sorted.{IsStrictlyIncreasing}
 use Rattle.std.proofs.lemmas.List.Elements.{recursion_from_All}
 use Rattle.mdbox_base.specs.declared.entries.MapCount.{MapCount}
 use Rattle.mdbox_base.specs.declared.entries.MapEntry.TheVariants as entry
 use Rattle.model_appends.specs.MapAppending.{NamesListed, beside_without}
 use Rattle.model_appends.proofs.AppendSafeMapLemmas.{deleted_append}
 use Rattle.model_appends.proofs.DeletedMailboxLemmas.{deletions_are_accounted, leaves_deleted, listed_split}
-use Rattle.model_meaning.specs.MapFits.{HasMapBox}
 use Rattle.model_meaning.specs.MapMeaning.{box_at, count_given, greatest}
 use Rattle.model_meaning.specs.Sound.{IsSoundMapBox}
 use Rattle.model_meaning.proofs.AppliedLemmas.{boxes_by_deleted, records_by_deleted}
@@ -21,7 +19,7 @@ use Rattle.store_core.specs.Deleting.{AreAmounts, AreAmountsOf}
 use Rattle.store_core.proofs.AmountsLemmas.{given_there, rise_of, uids_of}
 use Rattle.store_core.proofs.BoxAppendLemmas.{dues_of, store_sound}
 use Rattle.store_core.proofs.ChangingLemmas.{Changing}
-use Rattle.store_core.proofs.DueLemmas.{listed_meant, store_counts}
+use Rattle.store_core.proofs.DueLemmas.{store_counts}
 use Rattle.store_core.proofs.LeavingBoxLemmas.{beside_map, boxes_beside, logs_without, read_without}
 use Rattle.store_core.proofs.MapDueLemmas.{named_below}
 

@@ -1,5 +1,5 @@
 -- Of a settled disk a record that is made may name each instance that a record names.
-use Rattle.store_core.proofs.Common.{◌&&◌, Contains, bytes_eq, nat_cmp, slice_cmp, inl, inr, ◌≡◌, ℕ, Bool, true, false, get_or, List, Option, Some, None, All, refl, sym, ◌∙◌, ap, subst, false≢true, All-contains, All-contains_itself, All-weaker, bytes_eq-Decides, DiskState, History, IfTold, IsImage}
+use Rattle.store_core.proofs.Common.{◌&&◌, Contains, bytes_eq, nat_cmp, slice_cmp, ◌≡◌, ℕ, Bool, true, false, get_or, List, Option, Some, None, All, refl, sym, ◌∙◌, ap, subst, false≢true, All-contains, All-contains_itself, All-weaker, bytes_eq-Decides, DiskState, History, IfTold, IsImage}
 use Rattle.store_core.proofs.Common.{reading, InstRow, LeavesAsRead, Lists, MapRecord, MapMeaning, map_meaning, named_instances, map_same, IsThereWhole, files_of, HasSameInstance, IsSettled, IsSettledFor, lt_less, is_of_kind, instance_file, IsStore, AreInstancesFirm, IsFirmInstance, IsOtherThan}
 use Rattle.store_core.proofs.Common.{HasKnownInstances, StoreValue, mixed, mixed-here}
 use Rattle.std.specs.Prelude.{◌==◌}

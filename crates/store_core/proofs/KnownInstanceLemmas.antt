@@ -1,11 +1,10 @@
 -- What a store knows of its instances, over changes of other files and entries of the map log.
-use Rattle.store_core.proofs.Common.{◌⊎◌, Contains, not, filter, inl, inr, ◌≡◌, ◌≢◌, ℕ, Bool, true, false, List, [], ◌∷◌, ◌++◌, map, get_or, Option, Some, None, All, refl, sym, ◌∙◌, ap, subst, cond-true, true≢false, option_map, All-nil, All-cons, All-head, All-tail, All-contains, All-append}
+use Rattle.store_core.proofs.Common.{Contains, not, filter, inl, inr, ◌≡◌, ◌≢◌, ℕ, Bool, true, false, List, [], ◌∷◌, ◌++◌, map, get_or, Option, Some, None, All, refl, sym, ◌∙◌, ap, subst, cond-true, true≢false, option_map, All-nil, All-cons, All-head, All-tail, All-contains, All-append}
 use Rattle.store_core.proofs.Common.{All-contains_itself, All-weaker, FileState, DiskState, History, MayLeave, IfTold, Between, SameState, SameButFor, reading, named, FileName, between-map, between-on, if_told-map, named-narrows, BoxEntry, Highest, InstRow, MapEntry, InstId, stored_row, MapRecord}
 use Rattle.store_core.proofs.Common.{MapMeaning, map_applied, record_made, record_changed, record_rules, named_instances, FileNo, MapUid, MapPlace, kept_all, kept_rows, changed_same, IsThereWhole, files_of, InstancesValue, instance_in, has_id, with_holders, KnownInstance, OthersAreNamed, KeepsFirm}
-use Rattle.store_core.proofs.Common.{IsAppendable, NamesKnown, NamesFirst, drawn_by, IsStore, IsOtherThan, IsFirstKnown, IsFirmInstance, IsKnownRow, AreInstancesFirm, AreInstancesThere, HasKnownInstances, StoreValue, OpenBox}
+use Rattle.store_core.proofs.Common.{IsAppendable, NamesKnown, NamesFirst, drawn_by, IsStore, IsOtherThan, IsFirstKnown, IsKnownRow, AreInstancesFirm, AreInstancesThere, HasKnownInstances, StoreValue, OpenBox}
 use Rattle.std.proofs.Common.{flat_map, if◌then◌else◌}
 use Rattle.std.proofs.lemmas.Grind.{flat_map-append}
-use Rattle.std.proofs.lemmas.List.Elements.{Contains-append_left}
 use Rattle.disk_model.specs.declared.name.FileName.TheVariants as file
 use Rattle.disk_model.proofs.BetweenLemmas.{between-begins}
 use Rattle.mdbox_base.specs.declared.entries.MapEntry.TheVariants as entry
@@ -294,25 +293,31 @@ none_drawn (entry.E f) drawn = refl
 none_drawn (entry.X b cs) drawn = refl
 none_drawn (entry.V b n) drawn = refl
 
-pub instances_with : {D : Type 0} → (name : FileName) (generation : ℕ) (old new : Option History) (v w : StoreValue D) (e : MapEntry) → HasKnownInstances old v → IsAppendable e → NamesKnown e v.instances.known → NamesFirst e v.instances.known old → name ≡ file.Map generation → SameButFor name old new
-    → w.instances ≡ v.instances → w.drawn ≡ drawn_by e v.drawn → w.map ≡ map_applied e v.map → (w.stopped ≡ false → v.stopped ≡ false) → HasKnownInstances new w
-instances_with name generation old new v w e k kind names first is same instances drawn m runs = record {
+-- of any entry that leaves records where they are and names no instance
+pub instances_changed : {D : Type 0} → (name : FileName) (generation : ℕ) (old new : Option History) (v w : StoreValue D) (e : MapEntry) → HasKnownInstances old v → LeavesPlaces e → NamesKnown e v.instances.known → name ≡ file.Map generation → SameButFor name old new
+    → w.instances ≡ v.instances → w.drawn.instance ≡ v.drawn.instance → w.map ≡ map_applied e v.map → (w.stopped ≡ false → v.stopped ≡ false) → HasKnownInstances new w
+instances_changed name generation old new v w e k places names is same instances drawn m runs = record {
   kept = subst (λ (i : InstancesValue). AreInstancesKept i w.drawn w.map) (sym instances)
       (subst (λ (n : MapMeaning). AreInstancesKept v.instances w.drawn n) (sym m) (record {
         store = k.kept.store;
-        highest = k.kept.highest ∙ sym (none_drawn e v.drawn) ∙ ap (λ (d : Highest). d.instance) (sym drawn);
-        named = all_known v.instances.known e v.map (leaves_places e kind) names k.kept.named;
+        highest = k.kept.highest ∙ sym drawn;
+        named = all_known v.instances.known e v.map places names k.kept.named;
       }));
   running = λ on. subst (λ (i : InstancesValue). IfTold new (AreInstancesThere i.known)) (sym instances)
       (between-on SameInstances (AreInstancesThere v.instances.known) (AreInstancesThere v.instances.known) old new (λ a b c t. there_on v.instances.known a b c t) (instances_beside name old new (map_is_none name generation is) same) (k.running (runs on)));
 }
 
+pub instances_with : {D : Type 0} → (name : FileName) (generation : ℕ) (old new : Option History) (v w : StoreValue D) (e : MapEntry) → HasKnownInstances old v → IsAppendable e → NamesKnown e v.instances.known → NamesFirst e v.instances.known old → name ≡ file.Map generation → SameButFor name old new
+    → w.instances ≡ v.instances → w.drawn ≡ drawn_by e v.drawn → w.map ≡ map_applied e v.map → (w.stopped ≡ false → v.stopped ≡ false) → HasKnownInstances new w
+instances_with name generation old new v w e k kind names first is same instances drawn m runs =
+    instances_changed name generation old new v w e k (leaves_places e kind) names is same instances (ap (λ (d : Highest). d.instance) drawn ∙ none_drawn e v.drawn) m runs
+
 -- ---- the log of a mailbox
 
 -- made or removed, with all names synced
-pub instances_logged : {D : Type 0} → (number : ℕ) (old new : Option History) (v w : StoreValue D) → HasKnownInstances old v → OthersAreNamed (file.Box number 1) old new → w.instances ≡ v.instances → w.drawn.instance ≡ v.drawn.instance → w.map ≡ v.map → (w.stopped ≡ false → v.stopped ≡ false)
+pub instances_logged : {D : Type 0} → (number generation : ℕ) (old new : Option History) (v w : StoreValue D) → HasKnownInstances old v → OthersAreNamed (file.Box number generation) old new → w.instances ≡ v.instances → w.drawn.instance ≡ v.drawn.instance → w.map ≡ v.map → (w.stopped ≡ false → v.stopped ≡ false)
     → HasKnownInstances new w
-instances_logged number old new v w k same instances drawn m runs = instances_on old new v w k (instances_named (file.Box number 1) old new (box_is_none (file.Box number 1) number 1 refl) same) instances drawn m runs
+instances_logged number generation old new v w k same instances drawn m runs = instances_on old new v w k (instances_named (file.Box number generation) old new (box_is_none (file.Box number generation) number generation refl) same) instances drawn m runs
 
 -- named by an entry of the map log, which leaves the records as they are
 pub instances_naming : {D : Type 0} → (name : FileName) (generation : ℕ) (old new : Option History) (v w : StoreValue D) → HasKnownInstances old v → name ≡ file.Map generation → SameButFor name old new → w.instances ≡ v.instances → w.drawn.instance ≡ v.drawn.instance

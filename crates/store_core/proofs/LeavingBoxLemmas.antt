@@ -1,5 +1,5 @@
 -- What stands beside the mailboxes of a map, one for each, where one of them leaves or gets another name.
-use Rattle.store_core.proofs.Common.{◌≡◌, ◌≢◌, ◌==◌, ℕ, Bool, true, false, not, if◌then◌else◌, cond, List, [], ◌∷◌, map, filter, Option, Some, None, refl, sym, ◌∙◌, ap, cond-false, ne_eqb, equal_is, History, BoxEntry, BoxNo, MapBox, BoxMeaning, meaning_numbered, AreBoxLogs, ReadBoxLogs, OpenBox, without_box}
+use Rattle.store_core.proofs.Common.{◌≡◌, ◌≢◌, ◌==◌, ℕ, Bool, true, false, not, if◌then◌else◌, List, [], ◌∷◌, map, filter, Option, Some, None, refl, sym, ◌∙◌, ap, cond-false, ne_eqb, equal_is, History, BoxEntry, BoxNo, MapBox, BoxMeaning, meaning_numbered, AreBoxLogs, ReadBoxLogs, OpenBox, without_box}
 use Rattle.mdbox_base.specs.declared.entries.MapEntry.TheVariants as entry
 use Rattle.model_appends.specs.MapAppending.{beside_without}
 use Rattle.model_meaning.specs.MapMeaning.{box_changed}

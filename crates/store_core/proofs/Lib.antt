@@ -1,8 +1,12 @@
+pub mod AmountsLemmas
 pub mod BesideLemmas
 pub mod BoxAppendLemmas
 pub mod BoxCrashLemmas
+pub mod ChangeCallLemmas
+pub mod ChangingLemmas
 pub mod Common
 pub mod CountingLemmas
+pub mod DeletingLemmas
 pub mod DueChangeLemmas
 pub mod DueLemmas
 pub mod EntryFileLemmas
@@ -18,6 +22,7 @@ pub mod KeptFileLemmas
 pub mod KeptMailLemmas
 pub mod KnownInstanceLemmas
 pub mod LeaveOutLemmas
+pub mod LeavingBoxLemmas
 pub mod LookupLemmas
 pub mod MadeCallLemmas
 pub mod MadeLogLemmas
@@ -35,6 +40,7 @@ pub mod PlacedInstanceLemmas
 pub mod PlacedKeepingLemmas
 pub mod PlacingLemmas
 pub mod RemovalLemmas
+pub mod RenamingLemmas
 pub mod RoomLemmas
 pub mod ShownLemmas
 pub mod StoreFileLemmas

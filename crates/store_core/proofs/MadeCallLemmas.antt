@@ -61,21 +61,21 @@ created old new v w b log room n k runs made same_map same_drawn number drawn un
           (All-append (IsMadeLog v.map v.drawn) v.made (b ∷ []) k.are_made (All-cons (IsMadeLog v.map v.drawn) b [] one (All-nil (IsMadeLog v.map v.drawn))))));
       apart = subst (λ (bs : List OpenBox). AllPairs HaveOtherNumbers bs) (sym made) (pairs_push HaveOtherNumbers v.made b k.apart (λ i d lt p. apart i d lt (p ∙ is)));
       held = λ _. subst (λ (bs : List OpenBox). All (IsHeldBy new) bs) (sym made)
-          (All-append (IsHeldBy new) v.made (b ∷ []) (held_named (file.Box n 1) old new v.made others (apart_from_made v.map v.drawn n v.made apart k.are_made) (k.held runs))
+          (All-append (IsHeldBy new) v.made (b ∷ []) (held_named (file.Box n 1) old new v.made others (apart_from_made v.map v.drawn n 1 v.made apart k.are_made) (k.held runs))
           (All-cons (IsHeldBy new) b [] (subst (λ (l : LogState). Holds l [] new) (sym roomy) (roomier_held log (max log.room room) new held)) (All-nil (IsHeldBy new))));
     }
 
 -- ---- one that was removed
 
-pub removed : {D : Type 0} → (old new : Option History) (v w : StoreValue D) (n : ℕ) → KeepsMadeLogs old v → v.stopped ≡ false → w.made ≡ without_box n v.made → w.map ≡ v.map → w.drawn ≡ v.drawn → OthersAreNamed (file.Box n 1) old new → KeepsMadeLogs new w
-removed old new v w n k runs made same_map same_drawn others =
+pub removed : {D : Type 0} → (old new : Option History) (v w : StoreValue D) (n generation : ℕ) → KeepsMadeLogs old v → v.stopped ≡ false → w.made ≡ without_box n v.made → w.map ≡ v.map → w.drawn ≡ v.drawn → OthersAreNamed (file.Box n generation) old new → KeepsMadeLogs new w
+removed old new v w n generation k runs made same_map same_drawn others =
     let are : All (IsMadeLog v.map v.drawn) (without_box n v.made) = All-filter (λ (o : OpenBox). not (o.number.0 == n)) (IsMadeLog v.map v.drawn) v.made k.are_made in
     record {
       are_made = subst (λ (bs : List OpenBox). All (IsMadeLog w.map w.drawn) bs) (sym made)
           (subst (λ (m : MapMeaning). All (IsMadeLog m w.drawn) (without_box n v.made)) (sym same_map) (subst (λ (d : _). All (IsMadeLog v.map d) (without_box n v.made)) (sym same_drawn) are));
       apart = subst (λ (bs : List OpenBox). AllPairs HaveOtherNumbers bs) (sym made) (AllPairs-filter HaveOtherNumbers (λ (o : OpenBox). not (o.number.0 == n)) v.made k.apart);
       held = λ _. subst (λ (bs : List OpenBox). All (IsHeldBy new) bs) (sym made)
-          (held_named (file.Box n 1) old new (without_box n v.made) others (apart_from_made v.map v.drawn n (without_box n v.made) (others_left n v.made) are) (All-filter (λ (o : OpenBox). not (o.number.0 == n)) (IsHeldBy old) v.made (k.held runs)));
+          (held_named (file.Box n generation) old new (without_box n v.made) others (apart_from_made v.map v.drawn n generation (without_box n v.made) (others_left n v.made) are) (All-filter (λ (o : OpenBox). not (o.number.0 == n)) (IsHeldBy old) v.made (k.held runs)));
     }
 
 -- ---- which are made

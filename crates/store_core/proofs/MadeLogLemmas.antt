@@ -57,10 +57,10 @@ apart_from_named m drawn name box boxes there is are = λ k d lt p.
     (let w : file.Box b.number.0 1 ≡ file.Box box.number box.generation = sym (are k d lt).name ∙ p ∙ is in cc w)
 
 -- where no log has this number, their files are not that of it
-pub apart_from_made : (m : MapMeaning) (drawn : Highest) (number : ℕ) (boxes : List OpenBox) → All (λ open_box. open_box.number.0 ≢ number) boxes → All (IsMadeLog m drawn) boxes → All (λ open_box. open_box.log.name ≢ file.Box number 1) boxes
-apart_from_made m drawn number boxes others are = λ k d lt p.
+pub apart_from_made : (m : MapMeaning) (drawn : Highest) (number generation : ℕ) (boxes : List OpenBox) → All (λ open_box. open_box.number.0 ≢ number) boxes → All (IsMadeLog m drawn) boxes → All (λ open_box. open_box.log.name ≢ file.Box number generation) boxes
+apart_from_made m drawn number generation boxes others are = λ k d lt p.
     let b : OpenBox = slice_index_or boxes k d in
-    others k d lt (let w : file.Box b.number.0 1 ≡ file.Box number 1 = sym (are k d lt).name ∙ p in cc w)
+    others k d lt (let w : file.Box b.number.0 1 ≡ file.Box number generation = sym (are k d lt).name ∙ p in cc w)
 
 -- ---- a store that keeps its logs
 

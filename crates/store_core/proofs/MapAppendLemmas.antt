@@ -4,7 +4,7 @@ use Rattle.store_core.proofs.Common.{IsSameLog, Reads, BoxEntry, Highest, MapEnt
 use Rattle.store_core.proofs.Common.{IsSoundMap, root_same, AreGoodLogs, Opens, IsCounted, listed_of, LiesInFile, IsThereWhole, files_of, HasRoot, HasBox, number_beside, due_at, listed_at, leak_at, IsAppendable, NamesKnown, NamesFirst, drawn_by, AreBoxLogs, ReadBoxLogs, IsRunning, CoverDues}
 use Rattle.store_core.proofs.Common.{IsStore, HasEntryRoom, AreInstancesThere, HasKnownInstances, StoreValue, entry_room, OpenBox, LiesBelowEnd, StayThere, AreInstances, FilesValue, IsAsKnown, if_told-map}
 use Rattle.disk_model.specs.declared.name.FileName.TheVariants as file
-use Rattle.log_records.proofs.EntrySizeLemmas.{lowered_size, counted_size, stored_size}
+use Rattle.log_records.proofs.EntrySizeLemmas.{counted_size, deleted_size, lowered_size, purged_size, stored_size}
 use Rattle.mdbox_base.specs.declared.entries.MapEntry.TheVariants as entry
 use Rattle.model_appends.specs.Amounts.{due_by, leak_by}
 use Rattle.model_appends.proofs.AmountLemmas.{accounted_by_map_entry}
@@ -397,15 +397,15 @@ some_octets (entry.E f) = omega arith
 some_octets (entry.X b cs) = omega arith
 some_octets (entry.V b n) = omega arith
 
-pub few_octets : (e : MapEntry) → IsAppendable e → MapInRange e → length (map_text e) ≤ 2 ^ 40
-few_octets (entry.U u) k r = omega arith
-few_octets (entry.D us) k r = let size = lowered_size (entry.D us) us refl r in let few = r.0 in omega (arith, size, few)
-few_octets (entry.T cs) k r = let size = counted_size (entry.T cs) cs refl r in let few = r.0 in omega (arith, size, few)
-few_octets (entry.S o c u f p z g is) k r = let size = stored_size (entry.S o c u f p z g is) o c u f p z g is refl r in let few = r.7 in omega (arith, size, few)
-few_octets (entry.H h) k r = absurd k
-few_octets (entry.B b g n) k r = absurd k
-few_octets (entry.G b g) k r = absurd k
-few_octets (entry.P f t ms us) k r = absurd k
-few_octets (entry.E f) k r = absurd k
-few_octets (entry.X b cs) k r = absurd k
-few_octets (entry.V b n) k r = absurd k
+pub few_octets : (e : MapEntry) → MapInRange e → length (map_text e) ≤ 2 ^ 40
+few_octets (entry.U u) r = omega arith
+few_octets (entry.D us) r = let size = lowered_size (entry.D us) us refl r in let few = r.0 in omega (arith, size, few)
+few_octets (entry.T cs) r = let size = counted_size (entry.T cs) cs refl r in let few = r.0 in omega (arith, size, few)
+few_octets (entry.S o c u f p z g is) r = let size = stored_size (entry.S o c u f p z g is) o c u f p z g is refl r in let few = r.7 in omega (arith, size, few)
+few_octets (entry.H h) r = omega arith
+few_octets (entry.B b g n) r = let short = r.2.short in omega (arith, short)
+few_octets (entry.G b g) r = omega arith
+few_octets (entry.P f t ms us) r = let size = purged_size (entry.P f t ms us) f t ms us refl r in let few = r.2 in let less = r.3 in omega (arith, size, few, less)
+few_octets (entry.E f) r = omega arith
+few_octets (entry.X b cs) r = let size = deleted_size (entry.X b cs) b cs refl r in let few = r.1 in omega (arith, size, few)
+few_octets (entry.V b n) r = let short = r.1.short in omega (arith, short)

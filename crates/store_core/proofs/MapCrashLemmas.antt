@@ -1,7 +1,7 @@
 -- What a crash within an append to the map log leaves, what the append leaves of a settled disk, and what records store then.
 use Rattle.store_core.proofs.Common.{inl, inr, ◌≡◌, ℕ, List, [], ◌∷◌, ◌++◌, map, Option, Some, None, All, refl, sym, ◌∙◌, ap, subst, append-nil, All-nil, All-cons, All-head, All-weaker, Files, DiskState, History, IsImage, MayLeave, IfTold, OthersStay, SameButFor, Between, reading, FileName}
 use Rattle.store_core.proofs.Common.{each_image-map, LogState, IsSameLog, IsLogRead, IsLogHeld, Holds, IsLogWithOrWithout, BoxEntry, MapEntry, HasOneMore, LeftBut, LeavesAsRead, logs_made, stored_row, kept_as, map_stored, count_itself, same_record, same_log, more_log, safe_without}
-use Rattle.store_core.proofs.Common.{settled_by_map_append, Lists, empty_mailbox, map_text, MapInRange, IsLogFile, LogHead, map_more, MapFits, MapRecord, MapBox, MapMeaning, map_meaning, named_instances, record_changed, record_made, map_same, root_same, AreGoodLogs, Opens, LiesInFile, IsThereWhole}
+use Rattle.store_core.proofs.Common.{settled_by_map_append, Lists, empty_mailbox, map_text, MapInRange, IsLogFile, LogHead, map_more, MapFits, MapRecord, MapBox, MapMeaning, map_meaning, record_changed, record_made, map_same, root_same, AreGoodLogs, Opens, LiesInFile, IsThereWhole}
 use Rattle.store_core.proofs.Common.{SafeBy, Safe, files_of, IsSettled, IsSettledFor, Leaves, HasSameRegion, HasSameInstance, StoresMessage, KnownInstance, AddsText, KeepsStored, IsAppendable, NamesKnown, NamesFirst, NamesFirm, IsFirmInstance, IsKnownRow, IsFirstKnown, AreInstancesThere, StoreValue}
 use Rattle.std.proofs.Common.{◌⊎◌}
 use Rattle.std.specs.Prelude.{◌≤◌}
@@ -20,7 +20,7 @@ use Rattle.model_store.specs.Stands.{KeepsDetached}
 use Rattle.store_core.specs.MapAppend.{StoresDetached, IsOwnSave, IsReadyToStore}
 use Rattle.store_core.proofs.BoxAppendLemmas.{is_log, disk_more}
 use Rattle.store_core.proofs.BoxCrashLemmas.{ReadsImage}
-use Rattle.store_core.proofs.InstanceAppendLemmas.{KnowsNamed, NamesMore, of_known, of_named, left_firm, was_there, once_with}
+use Rattle.store_core.proofs.InstanceAppendLemmas.{KnowsNamed, NamesMore, of_known, left_firm, was_there, once_with}
 use Rattle.store_core.proofs.MapAppendLemmas.{Readied, fits_there, good_made, lies_there}
 use Rattle.store_core.proofs.MapDueLemmas.{adds, no_box}
 

@@ -110,7 +110,7 @@ found_made (entry.V b n) k m sound fits = absurd k
 
 -- ---- numbers at records that change
 
-beside_changed : (f : MapRecord → MapRecord) → ((row : MapRecord) → SameButCount row (f row)) → (uid : ℕ) (rows : List MapRecord) (ns : List ℕ) → number_beside uid (map f rows) ns ≡ number_beside uid rows ns
+pub beside_changed : (f : MapRecord → MapRecord) → ((row : MapRecord) → SameButCount row (f row)) → (uid : ℕ) (rows : List MapRecord) (ns : List ℕ) → number_beside uid (map f rows) ns ≡ number_beside uid rows ns
 beside_changed f same uid [] [] = refl
 beside_changed f same uid [] (n ∷ ns) = refl
 beside_changed f same uid (r ∷ rs) [] = refl
@@ -362,7 +362,7 @@ lost_with e k m uid none = by_found (record_at m uid) refl
 -- ---- the numbers drawn
 
 -- the map uid of a record is at most the highest
-named_below : (m : MapMeaning) (uid : ℕ) (row : MapRecord) → IsSoundMap m → record_at m uid ≡ Some row → uid ≤ m.highest.map
+pub named_below : (m : MapMeaning) (uid : ℕ) (row : MapRecord) → IsSoundMap m → record_at m uid ≡ Some row → uid ≤ m.highest.map
 named_below m uid row sound found =
     let h : IsSoundRecord m.highest.map row × ((row.uid == uid) ≡ true) = found_holds (λ (r : MapRecord). r.uid == uid) m.records row (IsSoundRecord m.highest.map) found sound.records in
     let at : row.uid ≡ uid = equal_is row.uid uid h.1 in

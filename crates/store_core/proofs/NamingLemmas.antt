@@ -192,11 +192,11 @@ store_named old new v disk log b made mailbox name c same others added =
 
 -- ---- what a crash leaves
 
--- what is known of the append, of a disk that is settled for these lists
-record Names (old : History) (lists : Lists) (s : IsSettled old.now lists) (log : LogState) (mailbox : BoxNo) (name : List ℕ) : Type 0 where
+-- what is known of the append of an entry, of a disk that is settled for these lists, which gives these others
+pub record Appends (old : History) (lists later : Lists) (s : IsSettled old.now lists) (log : LogState) (e : MapEntry) : Type 0 where
   pub texts : List (List ℕ)
-  pub append : IsMapAppend (files_of old.now) s.store s.entries lists (lists ++ empty_mailbox mailbox.0 name ∷ []) (naming mailbox name)
-  pub alike : LeavesAlike s.safe.stands.map_log.generation (map_meaning s.store (s.entries ++ naming mailbox name ∷ [])) old.now
+  pub append : IsMapAppend (files_of old.now) s.store s.entries lists later e
+  pub alike : LeavesAlike s.safe.stands.map_log.generation (map_meaning s.store (s.entries ++ e ∷ [])) old.now
   pub log_name : log.name ≡ file.Map s.safe.stands.map_log.generation
   pub held : IsLogHeld log texts old.now
 
@@ -210,7 +210,7 @@ named_synced disk log mailbox name named h = record {
       (All-nil (λ (box : MapBox). image (file.Box box.number box.generation) ≡ files_of disk (file.Box box.number box.generation)));
 }
 
-names : {D : Type 0} → (old : History) (v : StoreValue D) (b : OpenBox) (mailbox : BoxNo) (name : List ℕ) (lists : Lists) (s : IsSettled old.now lists) → CanName (Some old) v b mailbox name → ReadsImage old.now → Names old lists s v.map_log mailbox name
+names : {D : Type 0} → (old : History) (v : StoreValue D) (b : OpenBox) (mailbox : BoxNo) (name : List ℕ) (lists : Lists) (s : IsSettled old.now lists) → CanName (Some old) v b mailbox name → ReadsImage old.now → Appends old lists (lists ++ empty_mailbox mailbox.0 name ∷ []) s v.map_log (naming mailbox name)
 names old v b mailbox name lists s c own =
     let runs = c.store.running c.running in
     let g : ℕ = s.safe.stands.map_log.generation in
@@ -238,31 +238,37 @@ image_safe disk lists later s e head texts image own a alike is (inr more) left 
     let name : FileName = file.Map s.safe.stands.map_log.generation in
     inr (safe_with_map_entry disk lists later e image s own a alike left (more_log (reading (disk name)) (image name) head texts (map_text e) is more))
 
+-- of any such append
+pub leaves_by : (old : History) (new : Option History) (lists later : Lists) (s : IsSettled old.now lists) (log : LogState) (e : MapEntry) → ReadsImage old.now → Appends old lists later s log e → AddsText log (map_text e) (Some old) new → Leaves lists later (Some old) new
+leaves_by old new lists later s log e own a adds =
+    let is : IsLogFile (reading (old.now (file.Map s.safe.stands.map_log.generation))) log.head a.texts = subst (λ (n : FileName). IsLogFile (reading (old.now n)) log.head a.texts) a.log_name (is_log log a.texts old.now a.held.reads) in
+    each_image-map (λ _ image. IsLogWithOrWithout log.head a.texts (map_text e) (image log.name) × OthersStay log.name (Some old) image) (λ _ image. Safe image lists ⊎ Safe image later) (Some old) new
+    (λ moment image i. image_safe old.now lists later s e log.head a.texts image own a.append a.alike is
+    (subst (λ (n : FileName). IsLogWithOrWithout log.head a.texts (map_text e) (image n)) a.log_name i.0) (λ other apart. i.1 other (λ q. apart (q ∙ a.log_name))))
+    (adds a.texts a.held)
+
+pub settled_by : (old new : History) (lists later : Lists) (s : IsSettled old.now lists) (ready log : LogState) (e : MapEntry) → ReadsImage old.now → Appends old lists later s ready e → IsSameLog ready log → SameButFor ready.name (Some old) (Some new)
+    → ((texts : List (List ℕ)) → Holds ready texts (Some old) → Holds log (texts ++ map_text e ∷ []) (Some new)) → IsSettledFor later (Some new)
+settled_by old new lists later s ready log e own a same others hold =
+    let now : IsLogHeld log (a.texts ++ map_text e ∷ []) new.now = hold a.texts a.held in
+    settled_by_map_append old.now new.now lists later e s own a.append a.alike (λ other apart. others other (λ q. apart (q ∙ a.log_name)))
+    (subst (λ (n : FileName). HasOneMore (map_text e) (reading (old.now n)) (reading (new.now n))) a.log_name (disk_more ready log a.texts (map_text e) old.now new.now same.name same.head a.held.reads now.reads))
+    (λ left may.
+    let there : MayLeave (new.now log.name) left = subst (λ (n : FileName). MayLeave (new.now n) left) (sym (same.name ∙ a.log_name)) may in
+    (now.keeps.leaves left).0 there ∙ sym now.keeps.reads ∙ ap (λ (n : FileName). reading (new.now n)) (same.name ∙ a.log_name))
+
+-- of the entry that names a mailbox
 pub leaves_named : {D : Type 0} → (old new : Option History) (v : StoreValue D) (b : OpenBox) (mailbox : BoxNo) (name : List ℕ) → CanName old v b mailbox name → IfTold old ReadsImage → AddsText v.map_log (map_text (naming mailbox name)) old new
     → (lists : Lists) → IsSettledFor lists old → Leaves lists (lists ++ empty_mailbox mailbox.0 name ∷ []) old new
 leaves_named None new v b mailbox name c own adds lists settled = absurd settled
-leaves_named (Some old) new v b mailbox name c own adds lists s =
-    let later : Lists = lists ++ empty_mailbox mailbox.0 name ∷ [] in
-    let a : Names old lists s v.map_log mailbox name = names old v b mailbox name lists s c own in
-    let is : IsLogFile (reading (old.now (file.Map s.safe.stands.map_log.generation))) v.map_log.head a.texts = subst (λ (n : FileName). IsLogFile (reading (old.now n)) v.map_log.head a.texts) a.log_name (is_log v.map_log a.texts old.now a.held.reads) in
-    each_image-map (λ _ image. IsLogWithOrWithout v.map_log.head a.texts (map_text (naming mailbox name)) (image v.map_log.name) × OthersStay v.map_log.name (Some old) image) (λ _ image. Safe image lists ⊎ Safe image later) (Some old) new
-    (λ moment image i. image_safe old.now lists later s (naming mailbox name) v.map_log.head a.texts image own a.append a.alike is
-    (subst (λ (n : FileName). IsLogWithOrWithout v.map_log.head a.texts (map_text (naming mailbox name)) (image n)) a.log_name i.0) (λ other apart. i.1 other (λ q. apart (q ∙ a.log_name))))
-    (adds a.texts a.held)
+leaves_named (Some old) new v b mailbox name c own adds lists s = leaves_by old new lists (lists ++ empty_mailbox mailbox.0 name ∷ []) s v.map_log (naming mailbox name) own (names old v b mailbox name lists s c own) adds
 
 pub settled_named : {D : Type 0} → (old new : Option History) (v : StoreValue D) (b : OpenBox) (mailbox : BoxNo) (name : List ℕ) (log : LogState) → CanName old v b mailbox name → IfTold old ReadsImage → IsSameLog v.map_log log → SameButFor v.map_log.name old new
     → ((texts : List (List ℕ)) → Holds v.map_log texts old → Holds log (texts ++ map_text (naming mailbox name) ∷ []) new) → (lists : Lists) → IsSettledFor lists old → IsSettledFor (lists ++ empty_mailbox mailbox.0 name ∷ []) new
 settled_named None new v b mailbox name log c own same others hold lists settled = absurd settled
 settled_named (Some old) None v b mailbox name log c own same others hold lists settled = absurd others
 settled_named (Some old) (Some new) v b mailbox name log c own same others hold lists s =
-    let e : MapEntry = naming mailbox name in
-    let a : Names old lists s v.map_log mailbox name = names old v b mailbox name lists s c own in
-    let now : IsLogHeld log (a.texts ++ map_text e ∷ []) new.now = hold a.texts a.held in
-    settled_by_map_append old.now new.now lists (lists ++ empty_mailbox mailbox.0 name ∷ []) e s own a.append a.alike (λ other apart. others other (λ q. apart (q ∙ a.log_name)))
-    (subst (λ (n : FileName). HasOneMore (map_text e) (reading (old.now n)) (reading (new.now n))) a.log_name (disk_more v.map_log log a.texts (map_text e) old.now new.now same.name same.head a.held.reads now.reads))
-    (λ left may.
-    let there : MayLeave (new.now log.name) left = subst (λ (n : FileName). MayLeave (new.now n) left) (sym (same.name ∙ a.log_name)) may in
-    (now.keeps.leaves left).0 there ∙ sym now.keeps.reads ∙ ap (λ (n : FileName). reading (new.now n)) (same.name ∙ a.log_name))
+    settled_by old new lists (lists ++ empty_mailbox mailbox.0 name ∷ []) s v.map_log log (naming mailbox name) own (names old v b mailbox name lists s c own) same others hold
 
 pub stored_named : {D : Type 0} → (old new : Option History) (v : StoreValue D) → IsStore old v → SameButFor v.map_log.name old new → KeepsStored old new
 stored_named None new v s same = same

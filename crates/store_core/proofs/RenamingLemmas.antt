@@ -1,11 +1,10 @@
 -- A mailbox that gets another name.
-use Rattle.store_core.proofs.Common.{◌≡◌, ◌≤◌, ◌<◌, ◌^◌, ℕ, false, List, map, Option, All, refl, sym, ap, subst, arith, History, BoxNo, Highest, MapInRange, MapFits, MapBox, MapMeaning, MapRecord, map_applied, IsCounted, IsSoundMap, CoverDues, IsUpTo, IsStore, AreBoxLogs, StoreValue}
+use Rattle.store_core.proofs.Common.{◌≡◌, ◌≤◌, ℕ, false, List, Option, All, refl, sym, subst, arith, History, BoxNo, Highest, MapInRange, MapFits, MapBox, MapMeaning, MapRecord, map_applied, IsCounted, IsSoundMap, CoverDues, IsUpTo, IsStore, AreBoxLogs, StoreValue}
 use Rattle.mdbox_base.specs.Words.{IsName}
 use Rattle.mdbox_base.specs.declared.entries.MapEntry.TheVariants as entry
 use Rattle.model_appends.proofs.AppendSafeMapLemmas.{renamed_append}
 use Rattle.model_appends.proofs.DeletedMailboxLemmas.{leaves_renamed}
 use Rattle.model_logs.specs.Entries.{map_text}
-use Rattle.model_meaning.specs.MapMeaning.{box_changed}
 use Rattle.model_meaning.proofs.AppliedLemmas.{boxes_by_renamed, records_by_renamed}
 use Rattle.std.specs.Prelude.{length}
 use Rattle.store_core.proofs.BoxAppendLemmas.{store_sound}

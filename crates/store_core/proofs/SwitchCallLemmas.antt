@@ -1,5 +1,5 @@
 -- Switching a storage file, by the entry that a caller hands in.
-use Rattle.store_core.proofs.Common.{◌≡◌, ◌==◌, ◌≤◌, ◌+◌, ◌-◌, ℕ, true, false, List, [], ◌∷◌, ◌++◌, map, length, Option, Some, All, refl, sym, ◌∙◌, ap, subst, History, IfTold, SameButFor, LogState, IsSameLog, Reads, Holds, MapEntry, MapPlace, FileNo, MapUid, Lists, map_text, MapInRange, MapFits}
+use Rattle.store_core.proofs.Common.{◌≡◌, ◌==◌, ◌≤◌, ◌+◌, ◌-◌, ℕ, true, false, List, [], ◌∷◌, ◌++◌, map, length, Option, Some, refl, sym, ◌∙◌, ap, subst, History, IfTold, SameButFor, LogState, IsSameLog, Reads, Holds, MapEntry, MapPlace, FileNo, MapUid, Lists, map_text, MapInRange, MapFits}
 use Rattle.store_core.proofs.Common.{MapRecord, MapMeaning, map_applied, record_at, IsSettledFor, Leaves, MailFile, FilesValue, AreFilesInOrder, is_emptied_in, made_doomed, found_holds, equal_is, AddsText, number_beside, due_at, leak_at, listed_at, KeepsStored, KeepsFirm, KeepsMadeLogs, IsStore}
 use Rattle.store_core.proofs.Common.{HasKnownInstances, StoreValue}
 use Rattle.mdbox_base.specs.declared.entries.MapEntry.TheVariants as entry

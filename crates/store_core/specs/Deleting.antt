@@ -38,10 +38,10 @@ abbrev pub IsDeletionOf : BoxNo → List LogRow → MapEntry → Type 0
 IsDeletionOf mailbox rows entry = (amounts : List MapCount) × (entry ≡ map_entry.X mailbox amounts) × AreAmountsOf (map (λ row. row.map_uid) rows) amounts
 
 -- one more of this map uid: of the last amount, where it is of it, else a new one
-abbrev pub with_one_more : ℕ → List MapCount → List MapCount
-with_one_more uid [] = record { uid = record { 0 = uid }; count = 1 } ∷ []
-with_one_more uid (c ∷ []) = if c.uid.0 == uid then record c { count = c.count + 1 } ∷ [] else c ∷ record { uid = record { 0 = uid }; count = 1 } ∷ []
-with_one_more uid (c ∷ d ∷ rest) = c ∷ with_one_more uid (d ∷ rest)
+abbrev pub with_uid_counted : ℕ → List MapCount → List MapCount
+with_uid_counted uid [] = record { uid = record { 0 = uid }; count = 1 } ∷ []
+with_uid_counted uid (c ∷ []) = if c.uid.0 == uid then record c { count = c.count + 1 } ∷ [] else c ∷ record { uid = record { 0 = uid }; count = 1 } ∷ []
+with_uid_counted uid (c ∷ d ∷ rest) = c ∷ with_uid_counted uid (d ∷ rest)
 
 -- the count of each amount of this map uid can rise
 abbrev pub IsBelowLimit : ℕ → List MapCount → Type 0

@@ -15,7 +15,7 @@ ghost use Rattle.model_meaning.specs.MapFits.{MapFits};
 ghost use Rattle.model_meaning.specs.MapMeaning.{MapMeaning, box_at, map_applied};
 ghost use Rattle.model_store.specs.Settled.{IsSettledFor, Leaves};
 ghost use Rattle.store_core.specs.Beside.{in_rows};
-ghost use Rattle.store_core.specs.Deleting.{AreAmounts, AreAmountsOf, IsBelowLimit, IsDeletionOf, lists_without, with_one_more};
+ghost use Rattle.store_core.specs.Deleting.{AreAmounts, AreAmountsOf, IsBelowLimit, IsDeletionOf, lists_without, with_uid_counted};
 ghost use Rattle.store_core.specs.Dues.{due_at, leak_at, KeepsStored};
 ghost use Rattle.store_core.specs.Keeping.{KeepsMail, KeepsUids};
 ghost use Rattle.store_core.specs.MadeLogs.{HaveOtherNumbers, KeepsGone, without_box};
@@ -187,14 +187,16 @@ fn amounts_of(alloc: Global, uids: &[u32]) -> Result<Vec<MapCount>, NoMemory>
 /// One more of a map uid that is the last one, or is greater than all.
 fn note_uid(amounts: &mut Vec<MapCount>, uid: u32) -> Result<(), NoMemory>
     requires { IsBelowLimit uid amounts.old.items }
-    ensures { OnOk result (amounts.new.items ≡ with_one_more uid amounts.old.items) }
+    ensures { OnOk result (amounts.new.items ≡ with_uid_counted uid amounts.old.items) }
 {
+    let first = MapCount {
+        uid: MapUid(uid),
+        count: 1,
+    };
     match amounts.last_mut() {
         Some(last) if last.uid.0 == uid => last.count += 1,
-        _ => amounts.push(MapCount {
-            uid: MapUid(uid),
-            count: 1,
-        })?,
+        Some(_) => amounts.push(first)?,
+        None => amounts.push(first)?,
     }
     Ok(())
 }

@@ -116,3 +116,15 @@ returns-in-List-clause-rests g c = rw c.in-List.is c.serve.ensures.rests
 
 pub returns-in-Counts-clause-rests : goal.returns-in-Counts-clause-rests
 returns-in-Counts-clause-rests g c = rw c.in-Counts.is c.serve-in-Counts.ensures.rests
+
+pub returns-in-Delete-clause-rests : goal.returns-in-Delete-clause-rests
+returns-in-Delete-clause-rests g c = rw c.in-Delete.is c.serve-in-Delete.ensures.rests
+
+pub returns-in-Delete-clause-uncalled : goal.returns-in-Delete-clause-uncalled
+returns-in-Delete-clause-uncalled g c = λ before e. absurd (request_ended _ _ _ _ _ _ _ _ c.serve-in-Delete.result.0 c.serve-in-Delete.ensures.ends e)
+
+pub returns-in-Rename-clause-rests : goal.returns-in-Rename-clause-rests
+returns-in-Rename-clause-rests g c = rw c.in-Rename.is c.serve-in-Rename.ensures.rests
+
+pub returns-in-Rename-clause-uncalled : goal.returns-in-Rename-clause-uncalled
+returns-in-Rename-clause-uncalled g c = λ before e. absurd (request_ended _ _ _ _ _ _ _ _ c.serve-in-Rename.result.0 c.serve-in-Rename.ensures.ends e)

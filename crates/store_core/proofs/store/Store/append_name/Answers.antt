@@ -1,10 +1,8 @@
-use Rattle.store_core.proofs.Common.{rules, ◌≡◌, ◌++◌, ◌∷◌, [], List, ℕ, refl, sym, ◌∙◌, ap, subst, MapEntry, LogState, Lists, map_text, MapInRange, MapMeaning, map_applied, IsSettledFor, Leaves, AddsText, KeepsStored, KeepsMail, MailIsKept, IsUnnamed}
+use Rattle.store_core.proofs.Common.{rules, ◌≡◌, refl, sym, ◌∙◌, ap, subst, MapEntry, LogState, Lists, map_text, MapInRange, MapMeaning, map_applied, IsSettledFor, Leaves, AddsText, KeepsStored, KeepsMail, MailIsKept, IsUnnamed}
 use Rattle.store_core.proofs.Common.{kept_begins}
 use Rattle.disk_model.specs.declared.name.FileName.TheVariants as file
 use Rattle.mdbox_base.specs.declared.entries.MapEntry.TheVariants as entry
 use Rattle.model_appends.specs.MapAppending.{lists_changed}
-use Rattle.store_core.specs.Keeping.{KeepsUids}
-use Rattle.store_core.specs.MadeLogs.{KeepsGone}
 use Rattle.store_core.proofs.BoxCrashLemmas.{leaves_none}
 use Rattle.store_core.proofs.ChangeCallLemmas.{can_rename, gone_renamed, gone_untaken, leak_renamed, made_after_change, store_after_change, uids_renamed, uids_untaken, unnamed_renamed}
 use Rattle.store_core.proofs.ChangingLemmas.{leaves_changed, read_changed, settled_changed}
@@ -12,7 +10,7 @@ use Rattle.store_core.proofs.KeptMailLemmas.{mail_mapped}
 use Rattle.store_core.proofs.KnownInstanceLemmas.{instances_changed}
 use Rattle.store_core.proofs.MailStayLemmas.{map_log_kept}
 use Rattle.store_core.proofs.MapAppendLemmas.{room_after}
-use Rattle.store_core.proofs.NamingCallLemmas.{AddsRead, AddsHeld, due_stays}
+use Rattle.store_core.proofs.NamingCallLemmas.{AddsHeld, due_stays}
 use Rattle.store_core.proofs.NamingLemmas.{stored_named}
 use Rattle.store_core.proofs.RenamingLemmas.{same_records}
 use Rattle.store_core.proofs.store.Store.append_name.Goals as goal
@@ -38,7 +36,7 @@ invariant_of-self-in-Ok g c =
     let applied : c.take_in.new.self.meaning ≡ map_applied (entry.V c.args.mailbox c.args.name.now) c.self.inside.map.meaning = ap (λ x. x.meaning) c.take_in.ensures ∙ ap (λ (e : MapEntry). map_applied e c.self.inside.map.meaning) is in
     let named : c.take_renaming.new.log.name ≡ file.Map c.self.invariant.1.generation = ap (λ (l : LogState). l.name) c.take_renaming.ensures.log ∙ c.self.invariant.1.map_name in (
       c.self.invariant.0 ∙ ap (λ (m : MapMeaning). m.store) (sym applied),
-      store_after_change _ _ _ c.append_naming.new.disk c.take_renaming.new.log c.append_naming.new.log (entry.V c.args.mailbox c.args.name.now) c.in_ok-entry.entry c.take_in.new.self.meaning _ _ can c.in-Ok.ensures.log c.in-Ok.ensures.others c.in-Ok.ensures.added is applied refl,
+      store_after_change _ _ _ c.append_naming.new.disk c.take_renaming.new.log c.append_naming.new.log (entry.V c.args.mailbox c.args.name.now) c.in_ok-entry.entry c.take_in.new.self.meaning _ _ c.self.invariant.1 can c.in-Ok.ensures.log c.in-Ok.ensures.others c.in-Ok.ensures.added is applied refl,
       room_after _ _ c.take_renaming.new.log c.self.invariant.2 c.take_renaming.ensures.no_less c.in-Ok.ensures.log.room refl,
       made_after_change c.self.invariant.1.generation _ _ _ _ c.take_renaming.new.log.name c.self.invariant.3 can.running named c.in-Ok.ensures.others refl (ap (λ (m : MapMeaning). m.store) applied) refl
           (λ n unnamed. subst (IsUnnamed n) (sym applied) (unnamed_renamed c.args.mailbox c.args.name.now c.self.inside.map.meaning n unnamed)),

@@ -1,4 +1,4 @@
-use Rattle.store_core.proofs.Common.{arith, All, refl, sym, ◌∙◌, ap, subst, IfTold, Lists, MapMeaning, map_applied, record_at, IsSettledFor, Leaves, KeepsStored, due_at, leak_at, MailIsKept, KeepsMail}
+use Rattle.store_core.proofs.Common.{arith, refl, sym, ◌∙◌, ap, subst, Lists, MapMeaning, record_at, IsSettledFor, Leaves, KeepsStored, due_at, leak_at, MailIsKept, KeepsMail}
 use Rattle.store_core.proofs.MailStayLemmas.{map_log_kept}
 use Rattle.store_core.specs.Switching.{HasCopies, HasCopiesSynced}
 use Rattle.store_core.proofs.KnownInstanceLemmas.{firm_seen}

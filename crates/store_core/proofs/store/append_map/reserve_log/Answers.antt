@@ -3,4 +3,4 @@ use Rattle.store_core.proofs.MapAppendLemmas.{few_octets}
 use Rattle.store_core.proofs.store.append_map.reserve_log.Goals as goal
 
 pub overflow_add-octets : goal.overflow_add-octets
-overflow_add-octets c = omega (arith, c.map_entry_size-octets.ensures, few_octets c.args.entry.now c.requires.kind c.requires.range)
+overflow_add-octets c = omega (arith, c.map_entry_size-octets.ensures, few_octets c.args.entry.now c.requires.range)

@@ -5,18 +5,18 @@ use Rattle.store_core.proofs.UnnamedLogLemmas.{removed_gone, removed_others}
 use Rattle.store_core.proofs.store.boxes.remove_log.Goals as goal
 
 pub returns-in_err-remove-clause-any_moment : goal.returns-in_err-remove-clause-any_moment
-returns-in_err-remove-clause-any_moment g c = apart_fails (file.Box c.args.number.0 1) half_removed _ _ _ (apart_begins (file.Box c.args.number.0 1) _) c.in_err-remove.ensures.failed
+returns-in_err-remove-clause-any_moment g c = apart_fails (file.Box c.args.number.0 c.args.generation) half_removed _ _ _ (apart_begins (file.Box c.args.number.0 c.args.generation) _) c.in_err-remove.ensures.failed
 
 pub returns-in_err-sync_names-clause-any_moment : goal.returns-in_err-sync_names-clause-any_moment
 returns-in_err-sync_names-clause-any_moment g c =
-    apart_fails_still (file.Box c.args.number.0 1) _ _ _ (apart_goes_on (file.Box c.args.number.0 1) removed _ _ _ (apart_begins (file.Box c.args.number.0 1) _) c.in_ok-remove.ensures.state) c.in_err-sync_names.ensures.failed
+    apart_fails_still (file.Box c.args.number.0 c.args.generation) _ _ _ (apart_goes_on (file.Box c.args.number.0 c.args.generation) removed _ _ _ (apart_begins (file.Box c.args.number.0 c.args.generation) _) c.in_ok-remove.ensures.state) c.in_err-sync_names.ensures.failed
 
 pub returns-clause-any_moment : goal.returns-clause-any_moment
 returns-clause-any_moment g c =
-    apart_named (file.Box c.args.number.0 1) _ _ _ (apart_goes_on (file.Box c.args.number.0 1) removed _ _ _ (apart_begins (file.Box c.args.number.0 1) _) c.in_ok-remove.ensures.state) c.in_ok-sync_names.ensures.state
+    apart_named (file.Box c.args.number.0 c.args.generation) _ _ _ (apart_goes_on (file.Box c.args.number.0 c.args.generation) removed _ _ _ (apart_begins (file.Box c.args.number.0 c.args.generation) _) c.in_ok-remove.ensures.state) c.in_ok-sync_names.ensures.state
 
 pub returns-clause-gone : goal.returns-clause-gone
-returns-clause-gone g c = removed_gone (file.Box c.args.number.0 1) _ _ _ c.in_ok-remove.ensures.state c.in_ok-sync_names.ensures.state
+returns-clause-gone g c = removed_gone (file.Box c.args.number.0 c.args.generation) _ _ _ c.in_ok-remove.ensures.state c.in_ok-sync_names.ensures.state
 
 pub returns-clause-others : goal.returns-clause-others
-returns-clause-others g c = removed_others (file.Box c.args.number.0 1) _ _ _ c.in_ok-remove.ensures.state c.in_ok-sync_names.ensures.state
+returns-clause-others g c = removed_others (file.Box c.args.number.0 c.args.generation) _ _ _ c.in_ok-remove.ensures.state c.in_ok-sync_names.ensures.state

@@ -1,4 +1,4 @@
-use Rattle.store_core.proofs.Common.{List, ℕ, refl, subst, sym}
+use Rattle.store_core.proofs.Common.{List, LogRow, ℕ, map, refl, subst, sym}
 use Rattle.mdbox_base.specs.declared.entries.MapCount.{MapCount}
 use Rattle.store_core.specs.Deleting.{AreAmountsOf}
 use Rattle.store_core.proofs.AmountsLemmas.{few_sorted, sorted_are}
@@ -11,6 +11,6 @@ pub returns : goal.returns
 returns c = (
   c.of.result,
   refl,
-  subst (λ (cs : List MapCount). AreAmountsOf _ cs) (sym c.of.ensures)
-      (sorted_are _ c.in_ok-uids.uids.items c.in_ok-amounts.amounts.items c.in_ok-uids.ensures.same (subst (λ (us : List ℕ). AreAmountsOf us c.in_ok-amounts.amounts.items) c.deref.ensures.value c.in_ok-amounts.ensures)),
+  subst (λ (cs : List MapCount). AreAmountsOf (map (λ (row : LogRow). row.map_uid) c.args.index.now.meaning.rows) cs) (sym c.of.ensures)
+      (sorted_are (map (λ (row : LogRow). row.map_uid) c.args.index.now.meaning.rows) c.in_ok-uids.uids.items c.in_ok-amounts.amounts.items c.in_ok-uids.ensures.same (subst (λ (us : List ℕ). AreAmountsOf us c.in_ok-amounts.amounts.items) c.deref.ensures.value c.in_ok-amounts.ensures)),
 )

@@ -1,10 +1,9 @@
-use Rattle.std.proofs.Common.{ℕ, subst, List, map}
+use Rattle.std.proofs.Common.{ℕ}
 use Rattle.std.proofs.lemmas.List.Sorted.{IsNonDecreasingBy-from_sort}
-use Rattle.std.specs.List.Sorted.{IsPermutation}
 use Rattle.store_core.proofs.store.deleting.sorted_uids.Goals as goal
 
 pub returns-clause-sorted : goal.returns-clause-sorted
 returns-clause-sorted c = IsNonDecreasingBy-from_sort (λ (u : ℕ). u) _ c.sort_unstable.ensures.sorted
 
 pub returns-clause-same : goal.returns-clause-same
-returns-clause-same c = subst (λ (us : List ℕ). IsPermutation us _) c.in_ok-uids.ensures c.sort_unstable.ensures.permutation
+returns-clause-same c = rw (← c.in_ok-uids.ensures) c.sort_unstable.ensures.permutation
