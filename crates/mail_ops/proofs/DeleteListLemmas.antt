@@ -1,6 +1,6 @@
 -- A mailbox that leaves the map: what is shown then, and how often it lists each record.
-use Rattle.mail_ops.proofs.Common.{◌≡◌, ◌==◌, ◌+◌, ◌||◌, ℕ, Bool, true, false, not, cond, List, [], ◌∷◌, map, filter, Option, Some, None, refl, sym, ◌∙◌, ap, subst, arith, All, count_by, if◌then◌else◌, bytes_eq, eq-eqb, eqb-true, sum_by-cons, History, Faults, BoxNo, ListRow, ListedMessage, Mailbox, Lists, listing_row, LogRow, BoxMeaning, box_meaning}
-use Rattle.mail_ops.proofs.Common.{MapBox, MapRecord, MapMeaning, map_meaning, record_at, record_of, listed_row, ShowLists, meaning_named, meaning_numbered, option_map_or, Run, HasComeTo, map_of, refs_in, IsStore, StoreValue, indexes_of, OpenBox, seen_of}
+use Rattle.mail_ops.proofs.Common.{◌≡◌, ◌==◌, ◌+◌, ◌||◌, ℕ, Bool, true, false, not, cond, List, [], ◌∷◌, map, filter, Option, Some, None, refl, sym, ◌∙◌, ap, subst, arith, All, count_by, bytes_eq, eq-eqb, eqb-true, sum_by-cons, History, Faults, BoxNo, ListRow, ListedMessage, Lists, listing_row, LogRow, BoxMeaning, box_meaning}
+use Rattle.mail_ops.proofs.Common.{MapBox, MapRecord, MapMeaning, map_meaning, record_at, record_of, listed_row, ShowLists, meaning_named, option_map_or, Run, HasComeTo, refs_in, IsStore, StoreValue, indexes_of, OpenBox, seen_of}
 use Rattle.std.specs.Prelude.{Contains}
 use Rattle.std.specs.List.{AllByRecursion, list_any}
 use Rattle.std.proofs.lemmas.List.Elements.{All-head, All-tail}
@@ -10,7 +10,6 @@ use Rattle.mdbox_base.specs.declared.entries.MapEntry.TheVariants as map_entry
 use Rattle.journal.specs.Events.{AreListings}
 use Rattle.model_appends.specs.MapAppending.{NamesListed, beside_without}
 use Rattle.model_meaning.specs.BoxMeaning.{rows_after}
-use Rattle.model_meaning.specs.MapMeaning.{count_given}
 use Rattle.model_meaning.specs.Sound.{IsSoundMap}
 use Rattle.model_octets.proofs.SearchLemmas.{both_same, found_is, found_one, text_is, text_yes}
 use Rattle.model_store.specs.Opening.{HasItsRecord}
