@@ -1,6 +1,6 @@
 -- A run that serves a made script, each of whose requests is OK: the counts that are kept grow as the messages that are listed do.
 use Rattle.exercise_course.proofs.Common.{◌≡◌, ◌≤◌, ◌<◌, ◌+◌, ◌/◌, ◌%◌, ◌==◌, ℕ, zero, suc, Bool, true, false, All, List, [], ◌∷◌, ◌++◌, length, map, slice_get, slice_index_or, sum_by, take, Option, Some, None, refl, AllByRecursion, option_map, sym, ◌∙◌, ap, arith, subst, inl, inr, eq-eqb, eqb-true}
-use Rattle.exercise_course.proofs.Common.{take_more, sum_by_push, slice_get-get_or, slice_get-map, slice_get_within, Faults, Highest, Uid, Request, Refusal, Reply, Lists, MapMeaning, EventPart, First, TakesFile, PlacesMessage, StoresRecord, Last, GivesBack, Run, RunEvent, and_then, before, first_in}
+use Rattle.exercise_course.proofs.Common.{sum_by_push, slice_get-get_or, slice_get-map, slice_get_within, Faults, Highest, Uid, Request, Refusal, Reply, Lists, MapMeaning, EventPart, First, TakesFile, PlacesMessage, StoresRecord, Last, GivesBack, Run, RunEvent, and_then, before, first_in}
 use Rattle.exercise_course.proofs.Common.{map_of, own_events, Broken, JournalStep, left_by, refusal_in, Around, IsEvent, IsNextEvent, behind_delivery, behind_event, last_refusal, AreNextEvents, IsServed, lists_before, own_more, own_other, below, made_request, made_round, made_turn, BeginsFree}
 use Rattle.exercise_course.proofs.Common.{is_hindered, is_ok}
 use Rattle.std.proofs.Math.Seq.{take-length}

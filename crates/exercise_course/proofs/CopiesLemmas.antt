@@ -1,5 +1,5 @@
 -- A made script never meets NO 13: its messages have new GUIDs, of which few counts are kept.
-use Rattle.exercise_course.proofs.Common.{◌≡◌, ◌≤◌, ◌<◌, ◌+◌, ◌/◌, ◌%◌, ◌⊎◌, ℕ, zero, suc, Bool, true, false, cond, if◌then◌else◌, All, List, [], ◌∷◌, ◌++◌, find, length, map, slice_get, slice_index_or, Option, Some, None, refl, AllByRecursion, option_map_or, option_or, sym, ◌∙◌, ap, arith, subst}
+use Rattle.exercise_course.proofs.Common.{◌≡◌, ◌≤◌, ◌<◌, ◌+◌, ◌/◌, ◌%◌, ◌⊎◌, ℕ, Bool, true, false, cond, if◌then◌else◌, All, List, [], ◌∷◌, ◌++◌, find, length, map, slice_get, slice_index_or, Option, Some, None, refl, AllByRecursion, option_map_or, option_or, sym, ◌∙◌, ap, arith, subst}
 use Rattle.exercise_course.proofs.Common.{inl, inr, common_steps, slice_get-get_or, slice_get_within, Faults, Highest, Request, Refusal, Reply, ListedMessage, Mailbox, Lists, change_first, empty_mailbox, MapMeaning, MapRecord, count_of, text_is, EventPart, First, PlacesInstance, TakesFile}
 use Rattle.exercise_course.proofs.Common.{StoresRecord, Last, StartsOver, Run, RunEvent, before, map_of, Answers, Does, add_last, add_message, expunge, has_name, is_message_of_uid, mailbox_named, message_at, message_in, set_flags, without_first, AreSteps, Broken, IsStep, JournalStep, refusal_in}
 use Rattle.exercise_course.proofs.Common.{IsServed, lane_name, made_request, BeginsFree, is_hindered, is_ok}

@@ -1,10 +1,9 @@
 -- The GUIDs that a run of a made script gives are of new records, of which few counts are kept.
-use Rattle.exercise_course.proofs.Common.{◌≡◌, ◌≤◌, ◌<◌, ◌+◌, ◌/◌, ◌%◌, ◌==◌, ◌⊎◌, ℕ, zero, suc, Bool, true, false, All, List, [], ◌∷◌, ◌++◌, flat_map, length, slice_get, slice_index_or, sum_by, take, Option, Some, None, refl, sym, ◌∙◌, ap, arith, subst, inl, inr, eq-eqb, eqb-true, append-nil}
-use Rattle.exercise_course.proofs.Common.{take_more, All-head, sum_by_push, slice_get-get_or, slice_get_within, Uid, Request, Refusal, Lists, MapFits, MapRecord, count_of, EventPart, First, StoresRecord, Last, GivesBack, StartsOver, Run, RunEvent, and_then, before, first_in, map_of, own_events}
+use Rattle.exercise_course.proofs.Common.{◌≡◌, ◌≤◌, ◌<◌, ◌+◌, ◌/◌, ◌%◌, ◌==◌, ◌⊎◌, ℕ, zero, suc, Bool, true, false, All, List, [], ◌∷◌, ◌++◌, flat_map, length, slice_get, sum_by, take, Option, Some, None, refl, sym, ◌∙◌, ap, arith, subst, inl, inr, eq-eqb, eqb-true, append-nil}
+use Rattle.exercise_course.proofs.Common.{All-head, sum_by_push, slice_get_within, Uid, Request, Refusal, Lists, MapFits, MapRecord, count_of, EventPart, First, StoresRecord, Last, GivesBack, StartsOver, Run, RunEvent, and_then, before, first_in, map_of, own_events}
 use Rattle.exercise_course.proofs.Common.{JournalStep, Around, DidNothing, DidPart, IsEvent, IsNextEvent, AreNextEvents, lists_before, own_more, own_other, below, made_request}
 use Rattle.std.proofs.lemmas.Grind.{flat_map-append}
 use Rattle.mdbox_base.specs.declared.requests.Request.TheVariants as request
-use Rattle.mdbox_base.specs.declared.replies.Refusal.TheVariants as refusal
 use Rattle.list_machine.specs.Run.{guid_added}
 use Rattle.journal.specs.Events.{guid_given}
 use Rattle.exercise_course.proofs.BalanceLemmas.{counted_to, raised_by}
@@ -13,7 +12,7 @@ use Rattle.exercise_course.proofs.DeliveredLemmas.{event_at, round_simple, sum_b
 use Rattle.exercise_course.proofs.GrownLemmas.{Grown, IsNew, new_count, run_grown, unseen_new}
 use Rattle.exercise_course.proofs.HalfLemmas.{each_less, raises_few}
 use Rattle.exercise_course.proofs.LegalLemmas.{asked_is, script_length, script_of}
-use Rattle.exercise_course.proofs.StoringLemmas.{GoesBehind, IsSimple, delivery_next, last_of, last_push, next_is, part_after, stored_at, stored_by, stored_last}
+use Rattle.exercise_course.proofs.StoringLemmas.{GoesBehind, IsSimple, delivery_next, last_of, last_push, next_is, stored_at, stored_by, stored_last}
 
 -- ---- the events of one request
 

@@ -1,12 +1,11 @@
 -- A made script deletes no mailbox and renames none: each name of a lane keeps its mailbox, so that no copy begins again.
-use Rattle.exercise_course.proofs.Common.{◌≡◌, ◌≢◌, ◌≤◌, ◌<◌, ◌+◌, ◌-◌, ◌/◌, ◌%◌, ◌==◌, nat_lt, ℕ, zero, suc, Bool, true, false, not, cond, if◌then◌else◌, All, AllPairs, List, [], ◌∷◌, ◌++◌, filter, find, flat_map, length, map, slice_get, slice_index_or, take, Option, Some, None, is_some, refl}
-use Rattle.exercise_course.proofs.Common.{option_map_or, option_or, bytes_eq, sym, ◌∙◌, ap, arith, subst, mod-lt, eq-eqb, eqb-true, ltb-true, ltb-false, common_steps, append-nil, take_more, All-head, All-tail, All-weaker, find-append, slice_get-get_or, slice_get_within, MapEntry, Uid, Request}
-use Rattle.exercise_course.proofs.Common.{Refusal, Reply, ListedMessage, Mailbox, Lists, change_first, empty_mailbox, MapFits, MapMeaning, map_applied, map_meaning, map_more, pairs_head, pairs_tail, text_is, EventPart, First, Last, GivesBack, StartsOver, Run, RunEvent, and_then, before, entries_of}
+use Rattle.exercise_course.proofs.Common.{◌≡◌, ◌≢◌, ◌≤◌, ◌<◌, ◌+◌, ◌-◌, ◌/◌, ◌%◌, ◌==◌, nat_lt, ℕ, zero, suc, Bool, true, false, not, cond, if◌then◌else◌, All, AllPairs, List, [], ◌∷◌, ◌++◌, filter, find, length, map, slice_get, Option, Some, None, is_some, refl}
+use Rattle.exercise_course.proofs.Common.{option_map_or, option_or, bytes_eq, sym, ◌∙◌, ap, arith, subst, mod-lt, eq-eqb, eqb-true, ltb-true, ltb-false, common_steps, append-nil, All-head, All-tail, All-weaker, find-append, slice_get_within, MapEntry, Uid, Request}
+use Rattle.exercise_course.proofs.Common.{Refusal, Reply, Mailbox, Lists, change_first, empty_mailbox, MapFits, MapMeaning, map_applied, map_meaning, map_more, pairs_head, pairs_tail, text_is, EventPart, First, Last, GivesBack, StartsOver, Run, RunEvent, and_then, before, entries_of}
 use Rattle.exercise_course.proofs.Common.{map_of, own_events, Answers, Does, add_last, has_name, is_message_of_uid, mailbox_named, without_first, AreSteps, IsStep, JournalStep, left_by, refusal_in, Around, DidPart, IsEvent, IsNextEvent, behind_event, last_refusal, AreNextEvents, lists_before}
 use Rattle.exercise_course.proofs.Common.{own_more, own_other, entries_more, lane_name, made_request, made_round, made_turn, BeginsFree}
 use Rattle.std.specs.Prelude.{◌||◌, fold, option_map}
 use Rattle.mdbox_base.specs.declared.entries.MapEntry.TheVariants as entry
-use Rattle.mdbox_base.specs.declared.ids.BoxNo.{BoxNo}
 use Rattle.mdbox_base.specs.declared.requests.Request.TheVariants as request
 use Rattle.mdbox_base.specs.declared.replies.Refusal.TheVariants as refusal
 use Rattle.mdbox_base.specs.declared.replies.Reply.TheVariants as reply

@@ -55,6 +55,14 @@ make_takes_none name around run lists event First d = files_of event _ d
 make_takes_none name around run lists event Last d = files_of event _ d
 make_takes_none name around run lists event part d = files_of event _ d
 
+pub delete_takes_none : (name : List ℕ) → TakesNone (request.Delete name)
+delete_takes_none name around run lists event First d = files_of event _ d.4
+delete_takes_none name around run lists event part d = files_of event _ d
+
+pub rename_takes_none : (name target : List ℕ) → TakesNone (request.Rename name target)
+rename_takes_none name target around run lists event First d = files_of event _ d.2
+rename_takes_none name target around run lists event part d = files_of event _ d
+
 pub fetch_takes_none : (name : List ℕ) (uid : Uid) → TakesNone (request.Fetch name uid)
 fetch_takes_none name uid around run lists event First d = files_of event _ d.2
 fetch_takes_none name uid around run lists event RemovesFile d = files_of event _ d.4

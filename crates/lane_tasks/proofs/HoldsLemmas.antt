@@ -214,6 +214,8 @@ delivery_holds (task.Expunge t) store history name time octets run place said in
 delivery_holds (task.Fetch t) store history name time octets run place said instance s runs found = absurd (let k : request.Deliver name time octets ≡ request.Fetch t.name t.uid = s.is_of in cc k)
 delivery_holds (task.Resync t) store history name time octets run place said instance s runs found = absurd (let k : request.Deliver name time octets ≡ request.Resync = s.is_of in cc k)
 delivery_holds (task.Purge t) store history name time octets run place said instance s runs found = absurd (let k : request.Deliver name time octets ≡ request.Purge = s.is_of in cc k)
+delivery_holds (task.Delete t) store history name time octets run place said instance s runs found = absurd (let k : request.Deliver name time octets ≡ request.Delete t.name = s.is_of in cc k)
+delivery_holds (task.Rename t) store history name time octets run place said instance s runs found = absurd (let k : request.Deliver name time octets ≡ request.Rename t.name t.target = s.is_of in cc k)
 
 -- ---- a fetch
 
@@ -320,6 +322,8 @@ fetch_holds (task.Expunge t) store history name uid run place said instance s an
 fetch_holds (task.Deliver t) store history name uid run place said instance s any still = absurd s.is_of
 fetch_holds (task.Resync t) store history name uid run place said instance s any still = absurd (let k : request.Fetch name uid ≡ request.Resync = s.is_of in cc k)
 fetch_holds (task.Purge t) store history name uid run place said instance s any still = absurd (let k : request.Fetch name uid ≡ request.Purge = s.is_of in cc k)
+fetch_holds (task.Delete t) store history name uid run place said instance s any still = absurd (let k : request.Fetch name uid ≡ request.Delete t.name = s.is_of in cc k)
+fetch_holds (task.Rename t) store history name uid run place said instance s any still = absurd (let k : request.Fetch name uid ≡ request.Rename t.name t.target = s.is_of in cc k)
 
 -- ---- each kind
 
@@ -343,4 +347,6 @@ held_told (task.Copy t) store history asked run place said instance s ready know
 held_told (task.Move t) store history asked run place said instance s ready knows some = none_held 0 refl some
 held_told (task.Expunge t) store history asked run place said instance s ready knows some = none_held 0 refl some
 held_told (task.Resync t) store history asked run place said instance s ready knows some = none_held 0 refl some
+held_told (task.Delete t) store history asked run place said instance s ready knows some = none_held 0 refl some
+held_told (task.Rename t) store history asked run place said instance s ready knows some = none_held 0 refl some
 held_told (task.Purge t) store history asked run place said instance s ready knows some = none_held (purge_claims t.stage (Held instance.id)) (purge_holds t.stage instance.id) some

@@ -31,14 +31,18 @@ use Rattle.mdbox_base.specs.Streams.{Rose}
 use Rattle.storage_files.specs.Files.{pins_in}
 use Rattle.mdbox_base.specs.declared.requests.Request.TheVariants as request
 use Rattle.mail_ops.specs.Copy.{CopyAnswers}
+use Rattle.mail_ops.specs.Deleting.{DeleteAnswers}
 use Rattle.mail_ops.specs.Event.{refusal_told}
 use Rattle.mail_ops.specs.Expunging.{ExpungeAnswers}
 use Rattle.mail_ops.specs.Flagging.{flag_refusal}
 use Rattle.mail_ops.specs.Making.{IsLogNotMade}
 use Rattle.mail_ops.specs.Moving.{MoveAnswers}
+use Rattle.mail_ops.specs.Renaming.{RenameAnswers}
 use Rattle.mail_ops.specs.Requests.{AppendsNothing, Replies}
 use Rattle.mail_ops.specs.declared.copy.CopyStage.{CopyStage}
 use Rattle.mail_ops.specs.declared.copy.CopyStage.TheVariants as copy_stage
+use Rattle.mail_ops.specs.declared.deleting.DeleteStage.{DeleteStage}
+use Rattle.mail_ops.specs.declared.deleting.DeleteStage.TheVariants as delete_stage
 use Rattle.mail_ops.specs.declared.event.NotDone.{NotDone}
 use Rattle.mail_ops.specs.declared.event.NotDone.TheVariants as not_done
 use Rattle.mail_ops.specs.declared.expunging.ExpungeStage.{ExpungeStage}
@@ -448,6 +452,7 @@ copy_refused name uid target now next old new answer why is e step said = by_nex
     by_next copy_stage.First (inl s) = absurd (not_a_step why refusal.Stopped s.0 refl step)
     by_next copy_stage.First (inr s) = s.0
     by_next (copy_stage.Adding held source) s = absurd s
+    by_next (copy_stage.BeginningAgain held) s = absurd s
     by_next (copy_stage.GivingBack held cause) s = absurd s
 
 pub move_refused : {D : Type 0} → (name : List ℕ) (uid : Uid) (target : List ℕ) (now next : MoveStage) (old new : StoreValue D) (answer : Progress) (why : Refusal) → now ≡ move_stage.First → answer ≡ progress.Done (reply.Refused why) → is_step why ≡ true → MoveAnswers name uid target now old new next answer → new ≡ old
@@ -496,3 +501,18 @@ ops_refused (request.Flag name uid flags) old new given answer why is e step sai
     by_check None free = by_reply (said.1 free)
     by_check (Some cause) check = same (cause, check)
 ops_refused other old new given answer why is e step said same = absurd said
+
+pub delete_refused : {D : Type 0} → (name : List ℕ) (now next : DeleteStage) (old new : StoreValue D) (before after : Option History) (answer : Progress) (why : Refusal) → now ≡ delete_stage.First → answer ≡ progress.Done (reply.Refused why) → is_step why ≡ true → DeleteAnswers name now old new before after next answer → new ≡ old
+delete_refused name now next old new before after answer why is e step said = by_next next why step (subst (λ (k : DeleteStage). DeleteAnswers name k old new before after next (progress.Done (reply.Refused why))) is (subst (λ (a : Progress). DeleteAnswers name now old new before after next a) e said))
+  where
+    by_next : (next : DeleteStage) (why : Refusal) → is_step why ≡ true → DeleteAnswers name delete_stage.First old new before after next (progress.Done (reply.Refused why)) → new ≡ old
+    by_next delete_stage.First refusal.Stopped step s = absurd (not_a_step refusal.Stopped refusal.Stopped refl refl step)
+    by_next delete_stage.First why step s = s.0
+    by_next (delete_stage.RemovingLog number generation) why step s = absurd s
+
+pub rename_refused : {D : Type 0} → (name target : List ℕ) (old new : StoreValue D) (before after : Option History) (given : Reply) (answer : Progress) (why : Refusal) → answer ≡ progress.Done given → answer ≡ progress.Done (reply.Refused why) → is_step why ≡ true → RenameAnswers name target old new before after given → new ≡ old
+rename_refused name target old new before after given answer why is e step said = by_why why step (subst (λ (r : Reply). RenameAnswers name target old new before after r) (done_one given (reply.Refused why) (sym is ∙ e)) said)
+  where
+    by_why : (why : Refusal) → is_step why ≡ true → RenameAnswers name target old new before after (reply.Refused why) → new ≡ old
+    by_why refusal.Stopped step s = absurd (not_a_step refusal.Stopped refusal.Stopped refl refl step)
+    by_why why step s = s.0

@@ -73,6 +73,8 @@ task_claims_few (task.Copy t) store history ready = none_few (claims_at (task.Co
 task_claims_few (task.Move t) store history ready = none_few (claims_at (task.Move t)) (λ file. refl) (λ id. refl)
 task_claims_few (task.Expunge t) store history ready = none_few (claims_at (task.Expunge t)) (λ file. refl) (λ id. refl)
 task_claims_few (task.Resync t) store history ready = none_few (claims_at (task.Resync t)) (λ file. refl) (λ id. refl)
+task_claims_few (task.Delete t) store history ready = none_few (claims_at (task.Delete t)) (λ file. refl) (λ id. refl)
+task_claims_few (task.Rename t) store history ready = none_few (claims_at (task.Rename t)) (λ file. refl) (λ id. refl)
 task_claims_few (task.Purge t) store history ready = none_few (purge_claims t.stage) (purge_pins t.stage) (purge_holds t.stage)
 task_claims_few (task.Fetch t) store history ready = record { pinned = claims_one_pin t.stage; held = λ id. claims_few t.stage store id ready }
 task_claims_few (task.Deliver t) store history ready = record {
@@ -153,6 +155,8 @@ found_free (task.Move t) asked store history around file s order none found = ab
 found_free (task.Expunge t) asked store history around file s order none found = absurd (no_room file around.room none found)
 found_free (task.Purge t) asked store history around file s order none found = absurd (no_room file around.room none found)
 found_free (task.Resync t) asked store history around file s order none found = absurd (no_room file around.room none found)
+found_free (task.Delete t) asked store history around file s order none found = absurd (no_room file around.room none found)
+found_free (task.Rename t) asked store history around file s order none found = absurd (no_room file around.room none found)
 found_free (task.Fetch t) asked store history around file s order none found = absurd (no_room file around.room none found)
 
 -- ---- what files read
@@ -167,4 +171,6 @@ safe_answered (task.Move t) lists store history is runs safe = tt
 safe_answered (task.Expunge t) lists store history is runs safe = tt
 safe_answered (task.Purge t) lists store history is runs safe = tt
 safe_answered (task.Resync t) lists store history is runs safe = tt
+safe_answered (task.Delete t) lists store history is runs safe = tt
+safe_answered (task.Rename t) lists store history is runs safe = tt
 safe_answered (task.Deliver t) lists store history is runs safe = tt

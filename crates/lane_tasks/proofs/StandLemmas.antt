@@ -1,8 +1,9 @@
 -- Where tasks begin, and that they stay where they stand, and ready, beside events of others.
 use Rattle.lane_tasks.proofs.Common.{◌≡◌, ℕ, true, false, List, [], Option, None, refl, sym, ◌∙◌, ap, subst, arith, inl, ◌≢◌, ◌⊎◌, ◌≤◌, All, list_any, All-nil, Faults, History, Reply, Request, Run, RunEvent, and_then, own_events, gave_back, took_file, AreFilesInOrder, IsStore, StoreValue, Claims}
 use Rattle.lane_tasks.proofs.Common.{Emptied, Held, Taken, make_claims, IsAt, MakeStage, fetch_claims, IsAtFetch, FetchStage, save_claims, IsAtSave, IsReadyToDeliver, SaveValue, SaveStage, purge_claims, IsAtPurgeStage, PurgeStage, IsMakeNumber, IsReadyTask, HasNamedFound, StandsTask, TookNoFile}
-use Rattle.lane_tasks.proofs.Common.{claims_at, Task}
+use Rattle.lane_tasks.proofs.Common.{claims_at, flat_map, Task}
 use Rattle.mdbox_base.specs.declared.requests.Request.TheVariants as request
+use Rattle.list_machine.specs.Run.{uid_added}
 use Rattle.journal.specs.Events.{last_refusal}
 use Rattle.task_claims.specs.Claims.{ClaimsNothing, Due, Made, Thing}
 use Rattle.task_claims.specs.Stable.{Beside}
@@ -11,12 +12,15 @@ use Rattle.task_steps.specs.Step.{GivesNew, HasNotBegun}
 use Rattle.task_steps.proofs.SeenLemmas.{not_begun_stays}
 use Rattle.mail_ops.specs.Claims.{copy_claims, expunge_claims, move_claims}
 use Rattle.mail_ops.specs.Copy.{IsAtCopy, IsReadyToCopy, copy_dues}
+use Rattle.mail_ops.specs.CopyStages.{IsToRaise}
+use Rattle.mail_ops.specs.Deleting.{IsAtDelete, IsReadyToDelete}
 use Rattle.mail_ops.specs.Expunging.{IsAtExpunge, expunge_amounts, expunge_dues}
 use Rattle.mail_ops.specs.Making.{IsAtMake, IsReadyToMake}
 use Rattle.mail_ops.specs.Moving.{IsAtMove, IsReadyToMove, move_dues}
 use Rattle.mail_ops.specs.Owing.{AreDueIn}
 use Rattle.mail_ops.specs.declared.copy.CopyStage.{CopyStage}
 use Rattle.mail_ops.specs.declared.copy.CopyStage.TheVariants as copy_stage
+use Rattle.mail_ops.specs.declared.deleting.DeleteStage.{DeleteStage}
 use Rattle.mail_ops.specs.declared.expunging.ExpungeStage.{ExpungeStage}
 use Rattle.mail_ops.specs.declared.expunging.ExpungeStage.TheVariants as expunge_stage
 use Rattle.mail_ops.specs.declared.making.MakeStage.TheVariants as make_stage
@@ -25,6 +29,8 @@ use Rattle.mail_ops.specs.declared.moving.MoveStage.TheVariants as move_stage
 use Rattle.mail_ops.specs.declared.task.TaskStage.{TaskStage}
 use Rattle.mail_ops.specs.declared.task.TaskStage.TheVariants as ops_stage
 use Rattle.mail_ops.proofs.CopyStepLemmas.{copy_kept}
+use Rattle.mail_ops.proofs.ChangeClaimLemmas.{delete_stable}
+use Rattle.mail_ops.proofs.DeleteStageLemmas.{delete_kept}
 use Rattle.mail_ops.proofs.ExpungeStepLemmas.{expunge_kept}
 use Rattle.mail_ops.proofs.MakeStageLemmas.{make_kept}
 use Rattle.mail_ops.proofs.MoveStepLemmas.{move_kept}
@@ -66,6 +72,8 @@ task_stable (task.Move t) old new before after was is order b ready = move_stabl
 task_stable (task.Expunge t) old new before after was is order b ready = expunge_stable t.stage old new before after b ready
 task_stable (task.Fetch t) old new before after was is order b ready = fetch_stable t.stage old new before after b ready
 task_stable (task.Resync t) old new before after was is order b ready = tt
+task_stable (task.Delete t) old new before after was is order b ready = delete_stable t.stage old new before after b ready
+task_stable (task.Rename t) old new before after was is order b ready = tt
 task_stable (task.Purge t) old new before after was is order b ready = purge_stable t old new before after was is order b ready
 task_stable (task.Deliver t) old new before after was is order b ready = (ready.0, save_stable t.stage t.name t.time t.size ready.0 old new before after b ready.1)
 
@@ -90,6 +98,8 @@ at_stays (task.Expunge t) old new before after faults asked run place said event
 at_stays (task.Fetch t) old new before after faults asked run place said event passes in_run other gives at =
     stay_beside t.stage old new before after faults run event place said other (λ runs. (passes runs).0) (λ runs. ((passes runs).2, (passes runs).1, in_run.come runs)) in_run.spared at
 at_stays (task.Resync t) old new before after faults asked run place said event passes in_run other gives at = resyncs_are_kept t.stage run place said event other gives at
+at_stays (task.Delete t) old new before after faults asked run place said event passes in_run other gives at = delete_kept t.stage run place said event other gives at
+at_stays (task.Rename t) old new before after faults asked run place said event passes in_run other gives at = not_begun_stays run place said event other gives at
 at_stays (task.Purge t) old new before after faults asked run place said event passes in_run other gives at = purge_stands t old new before after run place said event (λ runs. ((passes runs).0, (passes runs).2)) other gives at
 at_stays (task.Deliver t) old new before after faults asked run place said event passes in_run other gives at = delivery_stays t old new before after asked run place said event passes other gives at
 
@@ -102,6 +112,8 @@ took_stays (task.Move t) run place event other took = took_none_other run place 
 took_stays (task.Expunge t) run place event other took = took_none_other run place event other took
 took_stays (task.Fetch t) run place event other took = took_none_other run place event other took
 took_stays (task.Resync t) run place event other took = took_none_other run place event other took
+took_stays (task.Delete t) run place event other took = took_none_other run place event other took
+took_stays (task.Rename t) run place event other took = took_none_other run place event other took
 took_stays (task.Purge t) run place event other took = apart_other run place event other took
 took_stays (task.Deliver t) run place event other took = tt
 
@@ -151,6 +163,8 @@ begins_unclaimed asked (task.Move t) b = move_first t.stage b.at
 begins_unclaimed asked (task.Expunge t) b = expunge_first t.stage b.at
 begins_unclaimed asked (task.Fetch t) b = λ thing. ap (λ (s : FetchStage). fetch_claims s thing) b.at
 begins_unclaimed asked (task.Resync t) b = λ thing. refl
+begins_unclaimed asked (task.Delete t) b = λ thing. refl
+begins_unclaimed asked (task.Rename t) b = λ thing. refl
 begins_unclaimed asked (task.Purge t) b = λ thing. ap (λ (s : PurgeStage). purge_claims s thing) b.at
 begins_unclaimed asked (task.Deliver t) b = delivery_unclaimed t asked b.at
 
@@ -172,6 +186,8 @@ begins_ready asked (task.Move t) store history b = subst (λ (s : MoveStage). Is
 begins_ready asked (task.Expunge t) store history b = subst (λ (s : ExpungeStage). AreDueIn store (expunge_amounts s)) (sym b.at) (λ other. omega arith)
 begins_ready asked (task.Fetch t) store history b = subst (λ (s : FetchStage). IsReadyToFetch s store) (sym b.at) tt
 begins_ready asked (task.Resync t) store history b = tt
+begins_ready asked (task.Delete t) store history b = subst (λ (s : DeleteStage). IsReadyToDelete s store) (sym b.at) tt
+begins_ready asked (task.Rename t) store history b = tt
 begins_ready asked (task.Purge t) store history b = (subst (λ (s : PurgeStage). HasPurged s store history) (sym b.at) tt, λ differs. absurd (differs b.at))
 begins_ready asked (task.Deliver t) store history b = delivery_ready t asked store history b.at
 
@@ -179,6 +195,14 @@ delivery_at : {D : Type 0} → (t : SaveValue) (store : StoreValue D) (history :
 delivery_at t store history (request.Deliver name time octets) run place said at begun =
     (subst (λ (s : SaveStage). IsAtSave s run place said) (sym at.1) begun, subst (λ (s : SaveStage). HasItsParts s octets) (sym at.1) tt, λ runs. fresh_ready t name time octets store history at, λ runs. subst (λ (s : SaveStage). HasNamedFound s store run place) (sym at.1) tt)
 delivery_at t store history asked run place said at begun = absurd at
+
+-- a copy that hasn't begun is to raise a count
+raises_first : (run : Run) (place : ℕ) (said : List Reply) → HasNotBegun run place said → IsToRaise run place said
+raises_first run place said begun = record {
+  calm = record { unrefused = ap last_refusal begun.0; unanswered = begun.1 };
+  last = inl begun.0;
+  uncopied = ap (λ (own : List RunEvent). uid_added (flat_map (λ (e : RunEvent). e.box_entries) own)) begun.0;
+}
 
 begins_at : {D : Type 0} → (t : Task) (store : StoreValue D) (history : Option History) (asked : Request) (run : Run) (place : ℕ) (said : List Reply) → IsAtFirst t asked → HasNotBegun run place said → IsAtTask t store history asked run place said
 begins_at (task.Ops t) store history asked run place said at begun = ops_first t.stage
@@ -188,11 +212,13 @@ begins_at (task.Ops t) store history asked run place said at begun = ops_first t
 begins_at (task.Counts t) store history asked run place said at begun = begun
 begins_at (task.Make t) store history asked run place said at begun =
     subst (λ (s : MakeStage). IsAtMake s run place said) (sym at) (record { unrefused = ap last_refusal begun.0; unanswered = begun.1 }, inl begun.0)
-begins_at (task.Copy t) store history asked run place said at begun = subst (λ (s : CopyStage). IsAtCopy s run place said) (sym at) begun
-begins_at (task.Move t) store history asked run place said at begun = subst (λ (s : MoveStage). IsAtMove t.uid s run place said) (sym at) begun
+begins_at (task.Copy t) store history asked run place said at begun = subst (λ (s : CopyStage). IsAtCopy s run place said) (sym at) (raises_first run place said begun)
+begins_at (task.Move t) store history asked run place said at begun = subst (λ (s : MoveStage). IsAtMove t.uid s run place said) (sym at) (raises_first run place said begun)
 begins_at (task.Expunge t) store history asked run place said at begun = subst (λ (s : ExpungeStage). IsAtExpunge s run place said) (sym at) begun
 begins_at (task.Fetch t) store history asked run place said at begun = subst (λ (s : FetchStage). IsAtFetch s store.stopped history run place said) (sym at) begun
 begins_at (task.Resync t) store history asked run place said at begun = subst (λ (s : ResyncAt). IsAtResync s run place said) (sym at) begun
+begins_at (task.Delete t) store history asked run place said at begun = subst (λ (s : DeleteStage). IsAtDelete s run place said) (sym at) begun
+begins_at (task.Rename t) store history asked run place said at begun = begun
 begins_at (task.Purge t) store history asked run place said at begun = subst (λ (s : PurgeStage). IsAtPurgeStage s t store run place said) (sym at) begun
 begins_at (task.Deliver t) store history asked run place said at begun = delivery_at t store history asked run place said at begun
 
@@ -208,6 +234,8 @@ begins_took (task.Move t) run place none = none_took run place none
 begins_took (task.Expunge t) run place none = none_took run place none
 begins_took (task.Fetch t) run place none = none_took run place none
 begins_took (task.Resync t) run place none = none_took run place none
+begins_took (task.Delete t) run place none = none_took run place none
+begins_took (task.Rename t) run place none = none_took run place none
 begins_took (task.Purge t) run place none = apart_first run place none
 begins_took (task.Deliver t) run place none = tt
 
@@ -237,5 +265,7 @@ task_taken (task.Move t) store history asked run place said file stood some is l
 task_taken (task.Expunge t) store history asked run place said file stood some is left = no_file_taken (claims_at (task.Expunge t)) run place file stood.took is
 task_taken (task.Fetch t) store history asked run place said file stood some is left = no_file_taken (claims_at (task.Fetch t)) run place file stood.took is
 task_taken (task.Resync t) store history asked run place said file stood some is left = no_file_taken (claims_at (task.Resync t)) run place file stood.took is
+task_taken (task.Delete t) store history asked run place said file stood some is left = no_file_taken (claims_at (task.Delete t)) run place file stood.took is
+task_taken (task.Rename t) store history asked run place said file stood some is left = no_file_taken (claims_at (task.Rename t)) run place file stood.took is
 task_taken (task.Purge t) store history asked run place said file stood some is left = purge_taken t t.stage store run place said file stood.at some is left
 task_taken (task.Deliver t) store history asked run place said file stood some is left = inl (delivery_taken t store history asked run place said file stood.at some is left)

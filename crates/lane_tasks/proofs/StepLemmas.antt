@@ -23,9 +23,11 @@ use Rattle.store_seen.specs.Seeing.{seen_of}
 use Rattle.task_steps.specs.Step.{DidEvent, and_told, Fell, HasComeTo, HasNotBegun, Leads, Seen, Steps, Went}
 use Rattle.task_claims.specs.Claims.{MovesClaims, Pinned}
 use Rattle.mail_ops.specs.Copy.{CopyValue, IsAtCopy}
+use Rattle.mail_ops.specs.Deleting.{DeleteValue, IsAtDelete}
 use Rattle.mail_ops.specs.Expunging.{ExpungeValue, IsAtExpunge}
 use Rattle.mail_ops.specs.Making.{IsAtMake, KeepsAllButLogs, MakeValue, make_left, with_drawn_box}
 use Rattle.mail_ops.specs.Moving.{IsAtMove, MoveValue}
+use Rattle.mail_ops.specs.Renaming.{RenameValue}
 use Rattle.mail_ops.specs.Requests.{AppendsNothing, IsOpsRequest, Replies}
 use Rattle.mail_ops.specs.Task.{TaskValue}
 use Rattle.mail_ops.specs.declared.making.MakeStage.TheVariants as make_stage
@@ -45,7 +47,7 @@ use Rattle.lane_tasks.specs.Clause.{DoomsNone, FindsAround, LeavesUndoomed, Sets
 use Rattle.lane_tasks.specs.Tasks.{IsAtTask, IsDeliveryOf, IsTaskOf, TookFiles, did_of}
 use Rattle.lane_tasks.specs.declared.task.Task.TheVariants as task
 use Rattle.lane_tasks.proofs.NamedLemmas.{names_on}
-use Rattle.lane_tasks.proofs.FilesLemmas.{TakesNone, copy_takes_none, counts_takes_none, expunge_takes_none, fetch_takes_none, flag_takes_none, list_takes_none, make_takes_none, move_takes_none, resync_takes_none, took_none_more}
+use Rattle.lane_tasks.proofs.FilesLemmas.{TakesNone, copy_takes_none, counts_takes_none, delete_takes_none, expunge_takes_none, fetch_takes_none, flag_takes_none, list_takes_none, make_takes_none, move_takes_none, rename_takes_none, resync_takes_none, took_none_more}
 use Rattle.lane_tasks.proofs.PurgeApartLemmas.{apart_on}
 use Rattle.lane_tasks.proofs.PurgeTakenLemmas.{same}
 
@@ -125,6 +127,22 @@ pub make_does : {D : Type 0} → (t u : MakeValue) (old new : StoreValue D) (bef
     → StepsFrom (IsAtMake t.stage) (IsAtMake u.stage) (request.Make t.name) old new before after began now u.did ended → StepsTask (task.Make t) (task.Make u) old new before after began now ended
 make_does t u old new before after began now ended same rest steps =
     steps_by (task.Make t) (task.Make u) (request.Make t.name) old new before after began now ended (λ asked is. (is, is ∙ ap request.Make (sym same))) (make_takes_none t.name) (logs_files old new rest) (λ run place took. took) (λ run place took. took) (λ asked around. refl) steps
+
+delete_request : (t u : DeleteValue) → u.name ≡ t.name → request.Delete t.name ≡ request.Delete u.name
+delete_request t u e = ap request.Delete (sym e)
+
+pub delete_does : {D : Type 0} → (t u : DeleteValue) (old new : StoreValue D) (before after : Option History) (began now : Faults) (ended : Option Reply) → u.name ≡ t.name → KeepsRest old new
+    → StepsFrom (IsAtDelete t.stage) (IsAtDelete u.stage) (request.Delete t.name) old new before after began now u.did ended → StepsTask (task.Delete t) (task.Delete u) old new before after began now ended
+delete_does t u old new before after began now ended same rest steps =
+    steps_by (task.Delete t) (task.Delete u) (request.Delete t.name) old new before after began now ended (λ asked is. (is, is ∙ delete_request t u same)) (delete_takes_none t.name) (rest_files old new rest) (λ run place took. took) (λ run place took. took) (λ asked around. refl) steps
+
+rename_request : (t u : RenameValue) → (u.name ≡ t.name) × (u.target ≡ t.target) → request.Rename t.name t.target ≡ request.Rename u.name u.target
+rename_request t u e = let n = e.0 in let g = e.1 in cc (n, g)
+
+pub rename_does : {D : Type 0} → (t u : RenameValue) (old new : StoreValue D) (before after : Option History) (began now : Faults) (ended : Option Reply) → (u.name ≡ t.name) × (u.target ≡ t.target) → KeepsRest old new
+    → StepsFrom HasNotBegun HasNotBegun (request.Rename t.name t.target) old new before after began now u.did ended → StepsTask (task.Rename t) (task.Rename u) old new before after began now ended
+rename_does t u old new before after began now ended same rest steps =
+    steps_by (task.Rename t) (task.Rename u) (request.Rename t.name t.target) old new before after began now ended (λ asked is. (is, is ∙ rename_request t u same)) (rename_takes_none t.name t.target) (rest_files old new rest) (λ run place took. took) (λ run place took. took) (λ asked around. refl) steps
 
 ops_takes_none : (q : Request) → IsOpsRequest q → TakesNone q
 ops_takes_none (request.List name) is = list_takes_none name
@@ -395,6 +413,8 @@ request_stays (task.Expunge t) (task.Expunge next) asked same is = is ∙ ap (λ
 request_stays (task.Fetch t) (task.Fetch next) asked same is = is ∙ ap (λ (n : List ℕ). request.Fetch n t.uid) (sym same.0) ∙ ap (λ (u : Uid). request.Fetch next.name u) (sym same.1)
 request_stays (task.Deliver t) (task.Deliver next) asked same is = deliver_stays_of t next asked same is
 request_stays (task.Resync t) (task.Resync next) asked same is = is
+request_stays (task.Delete t) (task.Delete next) asked same is = is ∙ delete_request t next same
+request_stays (task.Rename t) (task.Rename next) asked same is = is ∙ rename_request t next same
 request_stays (task.Purge t) (task.Purge next) asked same is = is
 request_stays t next asked same is = absurd same
 

@@ -160,4 +160,6 @@ claimed_taken (task.Move t) store history asked run place said file s low some =
 claimed_taken (task.Expunge t) store history asked run place said file s low some = unclaimed 0 0 refl refl some
 claimed_taken (task.Fetch t) store history asked run place said file s low some = let none = fetch_takes t.stage file in unclaimed _ _ none.0 none.1 some
 claimed_taken (task.Resync t) store history asked run place said file s low some = unclaimed 0 0 refl refl some
+claimed_taken (task.Delete t) store history asked run place said file s low some = unclaimed 0 0 refl refl some
+claimed_taken (task.Rename t) store history asked run place said file s low some = unclaimed 0 0 refl refl some
 claimed_taken (task.Purge t) store history asked run place said file s low some = purge_claimed t t.stage store run place said file s.at s.took low some

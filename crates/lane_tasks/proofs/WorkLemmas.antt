@@ -64,9 +64,11 @@ work_stays (task.Make t) mine old new before after ready leaves = make_keeps t.s
 work_stays (task.Deliver t) mine old new before after ready leaves = save_keeps t.stage old.instances new.instances leaves.numbers
 work_stays (task.Ops t) mine old new before after ready leaves = omega arith
 work_stays (task.Counts t) mine old new before after ready leaves = omega arith
-work_stays (task.Copy t) mine old new before after ready leaves = omega arith
-work_stays (task.Move t) mine old new before after ready leaves = omega arith
+work_stays (task.Copy t) mine old new before after ready leaves = let e = leaves.end in omega (arith, e)
+work_stays (task.Move t) mine old new before after ready leaves = let e = leaves.end in omega (arith, e)
 work_stays (task.Expunge t) mine old new before after ready leaves = omega arith
 work_stays (task.Fetch t) mine old new before after ready leaves = omega arith
 work_stays (task.Resync t) mine old new before after ready leaves = omega arith
+work_stays (task.Delete t) mine old new before after ready leaves = omega arith
+work_stays (task.Rename t) mine old new before after ready leaves = omega arith
 work_stays (task.Purge t) mine old new before after ready leaves = left_stays t.stage mine old new before after leaves

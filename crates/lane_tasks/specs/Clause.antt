@@ -199,8 +199,8 @@ pub record PurgesSo {D : Type 0} (t next : PurgeValue) (old new : StoreValue D) 
   pub refused : (why : Refusal) → ended ≡ Some (reply.Refused why) → why ≢ refusal.ReadFault → why ≢ refusal.Stopped → t.stage ≡ purge_stage.First
 
 -- What a task answers, by what its event found in the store and left of it: of a listing or a setting of flags, and, unless the store
--- was stopped, of a make, a copy, a move, an expunge, a deletion, a renaming, a delivery or a resync, with the stages before and after. A resync that puts counts
--- right leaves each exact. Of a purge it is what its event dropped, and what it made of the files.
+-- was stopped, of a make, a copy, a move, an expunge, a deletion, a renaming, a delivery or a resync, with the stages before and after. A
+-- resync that puts counts right leaves each exact. Of a purge it is what its event dropped, and what it made of the files.
 abbrev pub TellsStore : {D : Type 0} → Task → Task → StoreValue D → StoreValue D → Option History → Option History → Option Reply → Type 0
 TellsStore (task.Ops t) next old new before after ended = (given : Reply) × (ended ≡ Some given) × Replies t.request old new given
 TellsStore (task.Make t) (task.Make next) old new before after ended = old.stopped ≡ false → MakeAnswers t.name t.stage old new before after next.stage (progress_by ended)

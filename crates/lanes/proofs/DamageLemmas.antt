@@ -97,6 +97,8 @@ stands_undamaged (task.Make t) store history name uid run place said s = absurd 
 stands_undamaged (task.Copy t) store history name uid run place said s = absurd (let z : request.Fetch name uid ≡ request.Copy t.name t.uid t.target = s.is_of in cc z)
 stands_undamaged (task.Move t) store history name uid run place said s = absurd (let z : request.Fetch name uid ≡ request.Move t.name t.uid t.target = s.is_of in cc z)
 stands_undamaged (task.Expunge t) store history name uid run place said s = absurd (let z : request.Fetch name uid ≡ request.Expunge t.name t.uid = s.is_of in cc z)
+stands_undamaged (task.Delete t) store history name uid run place said s = absurd (let z : request.Fetch name uid ≡ request.Delete t.name = s.is_of in cc z)
+stands_undamaged (task.Rename t) store history name uid run place said s = absurd (let z : request.Fetch name uid ≡ request.Rename t.name t.target = s.is_of in cc z)
 stands_undamaged (task.Fetch t) store history name uid run place said s = fetch_undamaged t.stage store.stopped history run place said s.at
 stands_undamaged (task.Deliver t) store history name uid run place said s = absurd s.is_of
 stands_undamaged (task.Purge t) store history name uid run place said s = absurd (let z : request.Fetch name uid ≡ request.Purge = s.is_of in cc z)

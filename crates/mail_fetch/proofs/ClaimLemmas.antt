@@ -6,6 +6,7 @@ use Rattle.disk_model.proofs.BetweenLemmas.{between-map}
 use Rattle.mdbox_base.specs.declared.progress.Progress.TheVariants as progress
 use Rattle.task_claims.specs.Claims.{ClaimsNothing}
 use Rattle.task_claims.specs.Leaving.{SyncsMail}
+use Rattle.task_claims.proofs.GoneLemmas.{gone_stays}
 use Rattle.task_claims.proofs.RestLemmas.{rest_leaves}
 use Rattle.mail_fetch.specs.declared.task.FetchStage.TheVariants as stage
 
@@ -34,7 +35,7 @@ idle_syncs before after idle =
 pub reading_leaves : {D : Type 0} → (old new : StoreValue D) (before after : Option History) → new ≡ record old { disk = new.disk } → IsIdle before after → (mine : Claims) → LeavesOthers mine old new before after
 reading_leaves old new before after same idle mine =
     subst (λ (s : StoreValue _). LeavesOthers mine old s before after) (sym same)
-    (rest_leaves mine old (record old { disk = new.disk }) before after refl refl (idle_syncs before after idle) refl (unraised_same old.map old.map refl) (omega arith) (λ name number is. is) (λ number uid held k. record { given = k.given; below = k.below; same = k.same }) (omega arith) (λ uid row none found listed. (listed, refl)))
+    (rest_leaves mine old (record old { disk = new.disk }) before after refl refl (idle_syncs before after idle) refl (unraised_same old.map old.map refl) (omega arith) (omega arith) (inl (λ name number is. is)) (gone_stays old (record old { disk = new.disk }) refl refl (omega arith)) (λ number uid held k. record { given = k.given; below = k.below; same = k.same }) (omega arith) (λ uid row none found listed. (listed, refl)))
 
 pub first_claims : (now : FetchStage) → now ≡ stage.First → ClaimsNothing (fetch_claims now)
 first_claims now is = subst (λ (s : FetchStage). ClaimsNothing (fetch_claims s)) (sym is) (λ thing. refl)

@@ -22,6 +22,7 @@ use Rattle.store_core.proofs.InstanceKeepingLemmas.{kept_same, reads_placed, syn
 use Rattle.store_core.proofs.KnownInstanceLemmas.{firm_same}
 use Rattle.task_claims.specs.Claims.{OthersClaim, is_to_remove}
 use Rattle.task_claims.specs.Leaving.{HasRegionOctets, HaveSameInstances, LeavesFile, LeavesRecord, MayOnlyGrow, OnlyGrows, OthersTook}
+use Rattle.task_claims.proofs.GoneLemmas.{gone_stays}
 use Rattle.task_claims.proofs.RestLemmas.{instance_kept, none_placed}
 use Rattle.mail_fetch.specs.Removal.{claims_of_removal}
 use Rattle.mail_fetch.specs.Task.{event_did}
@@ -105,7 +106,9 @@ removal_leaves mine n disk old before after elsewhere untaken ungrown same firm 
       store = refl;
       numbers = none_placed old.instances;
       mailboxes = stays old.map.highest.mailbox;
-      names = λ name number is. is;
+      end = stays old.map_log.end;
+      names = inl (λ name number is. is);
+      gone = gone_stays old new refl refl (stays old.map.highest.mailbox);
       compared = keeps.compared;
       firm = firm;
       uids = λ number uid held k. record { given = k.given; below = k.below; same = k.same };

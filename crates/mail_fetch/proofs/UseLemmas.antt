@@ -18,6 +18,7 @@ use Rattle.store_core.specs.Files.{LiesBelowEnd}
 use Rattle.store_core.specs.Knows.{knows_file, knows_instance, may_have_given}
 use Rattle.store_seen.specs.Seeing.{may_be_barred, may_be_used}
 use Rattle.task_claims.specs.Leaving.{OnlyGrows, LeavesFile}
+use Rattle.task_claims.proofs.GoneLemmas.{gone_stays}
 use Rattle.task_claims.proofs.RestLemmas.{instance_kept, record_kept}
 use Rattle.mail_fetch.specs.Claims.{claims_unpinned, with_use}
 use Rattle.mail_fetch.specs.Task.{pins_kept_in}
@@ -263,7 +264,9 @@ use_leaves_at mine from pins known store history rows keeps = record {
   store = keeps.store;
   numbers = none_placed store.instances known rows;
   mailboxes = omega arith;
-  names = λ name number is. is;
+  end = omega arith;
+  names = inl (λ name number is. is);
+  gone = gone_stays store (with_use from pins known store) refl refl (omega arith);
   compared = keeps.compared;
   firm = keeps.firm;
   uids = λ number uid held k. record { given = k.given; below = k.below; same = k.same };

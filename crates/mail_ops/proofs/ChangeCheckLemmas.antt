@@ -1,12 +1,11 @@
 -- What a deletion and a renaming look at: the checks of their events, by what the store has, and the mailbox that they find.
-use Rattle.mail_ops.proofs.Common.{◌≡◌, ◌==◌, ℕ, Bool, true, false, List, [], ◌∷◌, Option, Some, None, refl, sym, ◌∙◌, ap, subst, arith, common_steps, nat_tests, is_some, option_map, option_or, bytes_eq, find, cond, Refusal, Lists, Mailbox, AreWellFormed, BoxMeaning, MapBox, MapMeaning, ShowLists, meaning_numbered, Run, first_refusal, is_step}
+use Rattle.mail_ops.proofs.Common.{◌≡◌, ◌==◌, ℕ, Bool, true, false, List, [], ◌∷◌, Option, Some, None, refl, sym, ◌∙◌, ap, subst, arith, common_steps, nat_tests, is_some, option_map, option_or, bytes_eq, find, cond, Refusal, Lists, BoxMeaning, MapBox, ShowLists, meaning_numbered, Run, first_refusal, is_step}
 use Rattle.mail_ops.proofs.Common.{HasMailbox, mailbox_named, refused_where, StoreValue, indexes_of, list_named}
 use Rattle.std.specs.Prelude.{codes, is_none}
 use Rattle.mdbox_base.specs.declared.replies.Refusal.TheVariants as refusal
 use Rattle.list_machine.specs.Machine.{Check, IsNotInbox, IsNewName}
 use Rattle.model_meaning.specs.MapFits.{HasMapBox}
 use Rattle.model_meaning.specs.MapMeaning.{box_at}
-use Rattle.store_core.specs.Value.{list_numbered}
 use Rattle.mail_ops.specs.Changing.{MayChangeBox, deleting_refusal, renaming_refusal}
 use Rattle.mail_ops.specs.Messages.{IsBoxOf}
 use Rattle.mail_ops.proofs.FlagListLemmas.{numbered}

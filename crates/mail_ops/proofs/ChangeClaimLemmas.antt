@@ -1,5 +1,5 @@
 -- A deletion and a renaming claim nothing, and leave to the tasks beside them what is theirs.
-use Rattle.mail_ops.proofs.Common.{◌≡◌, ◌≤◌, ◌<◌, ◌⊎◌, ℕ, false, List, Option, Some, None, refl, sym, ◌∙◌, ap, subst, arith, inl, inr, History, BoxNo, Progress, Refusal, Reply, MapMeaning, MapRecord, BoxMeaning, map_applied, refs_in, due_at, KeepsRest, KeepsUids, IsStoppedSo, StoreValue, indexes_of, no_claims, NamesStay, SyncsMail, names_stay_same, fall}
+use Rattle.mail_ops.proofs.Common.{◌≡◌, ◌≤◌, ◌<◌, ◌⊎◌, ℕ, false, List, Option, refl, sym, ◌∙◌, ap, subst, arith, inl, inr, History, BoxNo, Progress, Reply, MapMeaning, MapRecord, BoxMeaning, refs_in, due_at, KeepsRest, KeepsUids, StoreValue, indexes_of, no_claims, NamesStay, SyncsMail, names_stay_same, fall}
 use Rattle.gate_log.specs.State.{LogState}
 use Rattle.mdbox_base.specs.declared.entries.MapEntry.TheVariants as map_entry
 use Rattle.mdbox_base.specs.declared.progress.Progress.TheVariants as progress
@@ -7,7 +7,6 @@ use Rattle.mdbox_base.specs.declared.replies.Refusal.TheVariants as refusal
 use Rattle.mdbox_base.specs.declared.replies.Reply.TheVariants as reply
 use Rattle.store_core.specs.Dues.{number_beside}
 use Rattle.store_core.specs.MadeLogs.{KeepsGone}
-use Rattle.task_claims.specs.Claims.{Due}
 use Rattle.task_claims.specs.Leaving.{LeavesUnlisted, RaisesNone, SameButCounts}
 use Rattle.task_claims.specs.Stable.{IsStable, MovesOwnClaims}
 use Rattle.task_claims.proofs.CountedLemmas.{deleted_same, renamed_same, same_map, unraised_deleted, unraised_same}

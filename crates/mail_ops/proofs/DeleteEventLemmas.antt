@@ -1,7 +1,7 @@
 -- The events of a deletion, by the clause of a step.
-use Rattle.mail_ops.proofs.Common.{All-nil, ◌≡◌, ◌≤◌, ◌<◌, ℕ, true, false, List, [], ◌∷◌, ◌++◌, Option, Some, None, refl, sym, ◌∙◌, ap, subst, arith, inl, History, Faults, told_calls, BoxNo, Did, Refusal, Reply, Mailbox, Lists, AreWellFormed, BoxMeaning, MapBox, MapMeaning, MapFits, map_applied}
-use Rattle.mail_ops.proofs.Common.{ShowLists, First, RunEvent, event_of, Run, own_events, no_numbers, is_step, Around, next_part, answers_well, IsReplyOf, due_at, IsStore, StoreValue, indexes_of, PartAnswers, mailbox_named, Seen, ShowsSeen, HasComeTo, HasNotBegun, Steps, IsStoppedSo, HasChangedDisk, FellChanging, seen_of}
-use Rattle.mail_ops.proofs.Common.{CanRefuse, IsPlain, did_fall, did_own, did_stop, ends_well, no_reply, own_event, refuses, some_reply, stands_by, stays_left, comes_along, never_more, plain_stopped, fall}
+use Rattle.mail_ops.proofs.Common.{All-nil, ◌≡◌, ℕ, true, false, List, [], ◌∷◌, Option, Some, None, refl, sym, ◌∙◌, ap, subst, arith, inl, History, Faults, told_calls, BoxNo, Did, Refusal, Reply, Mailbox, Lists, AreWellFormed, BoxMeaning, MapBox, MapMeaning, MapFits, map_applied}
+use Rattle.mail_ops.proofs.Common.{ShowLists, First, RunEvent, event_of, Run, own_events, no_numbers, is_step, Around, answers_well, IsReplyOf, IsStore, StoreValue, indexes_of, ShowsSeen, Steps, IsStoppedSo, HasChangedDisk, FellChanging, seen_of}
+use Rattle.mail_ops.proofs.Common.{CanRefuse, IsPlain, did_fall, did_own, did_stop, ends_well, no_reply, own_event, refuses, some_reply, stands_by, stays_left, comes_along, never_more, plain_stopped}
 use Rattle.std.specs.Prelude.{filter, not, ◌==◌}
 use Rattle.mdbox_base.specs.declared.entries.MapCount.{MapCount}
 use Rattle.mdbox_base.specs.declared.entries.MapEntry.TheVariants as map_entry
@@ -11,18 +11,16 @@ use Rattle.mdbox_base.specs.declared.replies.Reply.TheVariants as reply
 use Rattle.mdbox_base.specs.declared.requests.Request.TheVariants as request
 use Rattle.mdbox_base.specs.declared.script.Half.TheVariants as half
 use Rattle.entry_steps.proofs.AppendListLemmas.{deleted_by}
-use Rattle.journal.specs.Events.{DidDelete}
 use Rattle.list_machine.specs.Machine.{delete_mailbox}
 use Rattle.list_machine.specs.Run.{RemovesLog}
-use Rattle.model_appends.specs.MapAppending.{beside_without}
 use Rattle.model_meaning.proofs.AppliedLemmas.{boxes_by_deleted}
-use Rattle.store_core.specs.Deleting.{AreAmounts, lists_without}
+use Rattle.store_core.specs.Deleting.{lists_without}
 use Rattle.task_steps.proofs.EventLaws.{one_reply}
 use Rattle.task_steps.proofs.KeptStoreLemmas.{StaysSo}
 use Rattle.task_steps.proofs.OneEventLemmas.{first_turn, next_first, plain_forgets, plain_refused, plain_refuses}
-use Rattle.mail_ops.specs.Changing.{MayChangeBox, deleting_refusal}
+use Rattle.mail_ops.specs.Changing.{deleting_refusal}
 use Rattle.mail_ops.specs.DeleteStages.{HasDeleted}
-use Rattle.mail_ops.specs.Deleting.{DeletedSo, DeletesBox, FellDeleting, IsAtDelete, RemovesBoxLog}
+use Rattle.mail_ops.specs.Deleting.{DeletedSo, FellDeleting, IsAtDelete, RemovesBoxLog}
 use Rattle.mail_ops.specs.Making.{same_lists}
 use Rattle.mail_ops.specs.declared.deleting.DeleteStage.{DeleteStage}
 use Rattle.mail_ops.specs.declared.deleting.DeleteStage.TheVariants as stage

@@ -1,8 +1,8 @@
 -- A mailbox that leaves the map: what is shown then, and how often it lists each record.
-use Rattle.mail_ops.proofs.Common.{◌≡◌, ◌==◌, ◌+◌, ℕ, Bool, true, false, not, cond, List, [], ◌∷◌, map, filter, Option, Some, None, refl, sym, ◌∙◌, ap, subst, arith, All, count_by, if◌then◌else◌, bytes_eq, eq-eqb, eqb-true, sum_by-cons, History, Faults, BoxNo, ListRow, ListedMessage, Mailbox, Lists, listing_row, LogRow, BoxMeaning, box_meaning}
-use Rattle.mail_ops.proofs.Common.{MapBox, MapRecord, MapMeaning, map_meaning, record_at, record_of, listed_row, ShowLists, meaning_named, meaning_numbered, option_map_or, Run, HasComeTo, map_of, refs_in, IsStore, StoreValue, indexes_of, seen_of}
+use Rattle.mail_ops.proofs.Common.{◌≡◌, ◌==◌, ◌+◌, ◌||◌, ℕ, Bool, true, false, not, cond, List, [], ◌∷◌, map, filter, Option, Some, None, refl, sym, ◌∙◌, ap, subst, arith, All, count_by, bytes_eq, eq-eqb, eqb-true, sum_by-cons, History, Faults, BoxNo, ListRow, ListedMessage, Lists, listing_row, LogRow, BoxMeaning, box_meaning}
+use Rattle.mail_ops.proofs.Common.{MapBox, MapRecord, MapMeaning, map_meaning, record_at, record_of, listed_row, ShowLists, meaning_named, option_map_or, Run, HasComeTo, refs_in, IsStore, StoreValue, indexes_of, OpenBox, seen_of}
 use Rattle.std.specs.Prelude.{Contains}
-use Rattle.std.specs.List.{AllByRecursion}
+use Rattle.std.specs.List.{AllByRecursion, list_any}
 use Rattle.std.proofs.lemmas.List.Elements.{All-head, All-tail}
 use Rattle.mdbox_base.specs.declared.entries.MapCount.{MapCount}
 use Rattle.mdbox_base.specs.declared.entries.BoxEntry.{BoxEntry}
@@ -10,12 +10,12 @@ use Rattle.mdbox_base.specs.declared.entries.MapEntry.TheVariants as map_entry
 use Rattle.journal.specs.Events.{AreListings}
 use Rattle.model_appends.specs.MapAppending.{NamesListed, beside_without}
 use Rattle.model_meaning.specs.BoxMeaning.{rows_after}
-use Rattle.model_meaning.specs.MapMeaning.{count_given}
 use Rattle.model_meaning.specs.Sound.{IsSoundMap}
 use Rattle.model_octets.proofs.SearchLemmas.{both_same, found_is, found_one, text_is, text_yes}
 use Rattle.model_store.specs.Opening.{HasItsRecord}
 use Rattle.model_store.proofs.OpeningSafeLemmas.{at_uid}
 use Rattle.store_core.specs.Deleting.{lists_without}
+use Rattle.store_core.specs.MadeLogs.{without_box}
 use Rattle.mail_ops.specs.Messages.{IsBoxOf}
 use Rattle.mail_ops.proofs.ChangeCheckLemmas.{ShownMailbox}
 use Rattle.mail_ops.proofs.MessageLemmas.{store_is_sound}
@@ -34,6 +34,17 @@ shows_without n (b ∷ bs) (m ∷ ms) (l ∷ ls) h = by_test (n == b.number) (n 
     by_test true false p rest = absurd (cc p)
     by_test false true p rest = absurd (cc p)
 shows_without n boxes meanings lists h = absurd h
+
+-- ---- logs that were made
+
+-- none is removed where none has the number
+pub without_none : (n : ℕ) (logs : List OpenBox) → list_any (λ o. o.number.0 == n) logs ≡ false → without_box n logs ≡ logs
+without_none n [] none = refl
+without_none n (o ∷ os) none = by_test (o.number.0 == n) none (without_none n os)
+  where
+    by_test : (t : Bool) → (t || list_any (λ (x : OpenBox). x.number.0 == n) os) ≡ false → (list_any (λ (x : OpenBox). x.number.0 == n) os ≡ false → without_box n os ≡ os) → cond (not t) (o ∷ without_box n os) (without_box n os) ≡ o ∷ os
+    by_test true e rest = absurd (let k : true ≡ false = e in cc k)
+    by_test false e rest = ap (λ (xs : List OpenBox). o ∷ xs) (rest e)
 
 -- ---- references
 

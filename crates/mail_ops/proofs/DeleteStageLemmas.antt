@@ -1,5 +1,5 @@
 -- Where a deletion stands, and the part that comes next.
-use Rattle.mail_ops.proofs.Common.{◌≡◌, ℕ, List, [], ◌∷◌, ◌++◌, Option, Some, None, refl, sym, ◌∙◌, ap, eq-eqb, ne_eqb, Refusal, Reply, RunEvent, Run, and_then, own_events, Around, last_refusal, next_part, own_more, own_other, HasNotBegun, IsKept, First, EventPart}
+use Rattle.mail_ops.proofs.Common.{◌≡◌, ℕ, List, [], ◌∷◌, ◌++◌, Option, Some, None, ◌∙◌, ap, eq-eqb, ne_eqb, Refusal, Reply, RunEvent, Run, and_then, own_events, Around, last_refusal, next_part, own_more, own_other, HasNotBegun, IsKept, First}
 use Rattle.mail_ops.proofs.Common.{not_begun_stays}
 use Rattle.mdbox_base.specs.declared.replies.Reply.TheVariants as reply
 use Rattle.mdbox_base.specs.declared.requests.Request.TheVariants as request

@@ -1,11 +1,10 @@
 -- What the step of a deletion says, event by event.
-use Rattle.mail_ops.proofs.Common.{◌≡◌, ◌≤◌, ◌<◌, ◌==◌, ◌⊎◌, cond, eqb-true, ℕ, Bool, true, false, not, List, Option, Some, None, refl, sym, ◌∙◌, ap, subst, arith, inl, inr, All, filter, History, Faults, BoxNo, Did, Progress, Refusal, Lists, MapBox, MapMeaning, map_applied, KeepsRest, KeepsUids, due_at}
+use Rattle.mail_ops.proofs.Common.{◌≡◌, ◌≤◌, ◌<◌, ◌==◌, ◌⊎◌, cond, eqb-true, ℕ, Bool, true, false, not, List, [], ◌∷◌, Option, Some, None, refl, sym, ◌∙◌, ap, subst, arith, inl, inr, All, filter, History, Faults, BoxNo, Did, Progress, Refusal, MapBox, MapMeaning, KeepsRest, KeepsUids}
 use Rattle.mail_ops.proofs.Common.{has_made_log, IsStore, StoreValue, indexes_of, ended_by, refusal_told, told_as, IsStoppedSo, HasChangedDisk, FellChanging, NotDone, SyncsMail, ChangesOnlyLogs, eq-eqb}
 use Rattle.std.specs.Prelude.{◌≢◌, Contains, max}
 use Rattle.std.proofs.lemmas.List.Elements.{All-nil, All-cons, All-contains}
 use Rattle.gate_log.specs.Log.{NamedButFor}
 use Rattle.disk_model.specs.declared.name.FileName.TheVariants as file
-use Rattle.mdbox_base.specs.declared.entries.MapEntry.TheVariants as map_entry
 use Rattle.mdbox_base.specs.declared.progress.Did.TheVariants as did
 use Rattle.mdbox_base.specs.declared.progress.Progress.TheVariants as progress
 use Rattle.mdbox_base.specs.declared.replies.Refusal.TheVariants as refusal
@@ -23,7 +22,7 @@ use Rattle.mail_ops.specs.declared.deleting.DeleteStage.TheVariants as stage
 use Rattle.mail_ops.specs.declared.event.NotDone.TheVariants as not_done
 use Rattle.mail_ops.proofs.ChangeCheckLemmas.{deleting_steps, mailbox_there}
 use Rattle.mail_ops.proofs.DeleteEventLemmas.{DeleteClause, deleting_done, deleting_fell, deleting_refused, deleting_stopped, deleting_unremembered, removing_broke, removing_done, removing_stopped}
-use Rattle.mail_ops.proofs.KeptUidLemmas.{highest_rises, logs_keep, same_keeps}
+use Rattle.mail_ops.proofs.KeptUidLemmas.{logs_keep, same_keeps}
 use Rattle.mail_ops.proofs.OnlyLogsLemmas.{done_keeps, done_not, fell_keeps, idle_keeps, took_spares}
 use Rattle.mail_ops.proofs.ToldLemmas.{done_more, memory_runs, more_is, step_runs, why_is}
 

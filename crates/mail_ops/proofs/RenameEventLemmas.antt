@@ -1,8 +1,8 @@
 -- The event of a renaming, by the clause of a step.
-use Rattle.mail_ops.proofs.Common.{◌≡◌, ◌==◌, ℕ, Bool, true, false, cond, List, [], ◌∷◌, ◌++◌, map, Option, Some, None, refl, sym, ◌∙◌, ap, subst, arith, inl, All, common_steps, nat_tests, bytes_eq, eq-eqb, eqb-true, find, is_some, option_map, option_or, History, Faults, told_calls, BoxNo, Did, Refusal, Reply, Mailbox, Lists, AreWellFormed, BoxMeaning, MapBox, MapMeaning, MapRecord, MapFits, map_applied}
-use Rattle.mail_ops.proofs.Common.{ShowLists, First, RunEvent, event_of, Run, own_events, no_numbers, is_step, refused_where, Around, answers_well, IsReplyOf, due_at, IsStore, StoreValue, indexes_of, list_named, Seen, ShowsSeen, HasNotBegun, Steps, IsStoppedSo, HasChangedDisk, FellChanging, seen_of}
+use Rattle.mail_ops.proofs.Common.{◌≡◌, ◌==◌, ℕ, Bool, true, false, cond, List, [], ◌∷◌, map, Option, Some, None, refl, sym, ◌∙◌, ap, subst, arith, inl, bytes_eq, eq-eqb, eqb-true, find, is_some, option_map, option_or, History, Faults, told_calls, BoxNo, Did, Refusal, Reply, Mailbox, Lists, AreWellFormed, BoxMeaning, MapBox, MapMeaning, MapRecord, MapFits, map_applied}
+use Rattle.mail_ops.proofs.Common.{ShowLists, First, RunEvent, event_of, own_events, no_numbers, is_step, refused_where, Around, answers_well, IsReplyOf, due_at, IsStore, StoreValue, indexes_of, list_named, ShowsSeen, HasNotBegun, Steps, seen_of}
 use Rattle.mail_ops.proofs.Common.{IsPlain, did_fall, did_own, ends_well, own_event, some_reply, stays_left, never_more, plain_stopped, refusal_last}
-use Rattle.std.specs.Prelude.{◌≢◌, Contains, codes}
+use Rattle.std.specs.Prelude.{Contains, codes}
 use Rattle.mdbox_base.specs.Words.{IsName}
 use Rattle.mdbox_base.specs.declared.entries.MapEntry.TheVariants as map_entry
 use Rattle.mdbox_base.specs.declared.progress.Did.TheVariants as did
@@ -18,9 +18,8 @@ use Rattle.model_meaning.specs.MapMeaning.{box_at, box_changed}
 use Rattle.model_meaning.proofs.AppliedLemmas.{boxes_by_renamed, records_by_renamed}
 use Rattle.model_octets.proofs.SearchLemmas.{found_is, found_one, text_is, text_yes}
 use Rattle.store_core.specs.Dues.{number_beside}
-use Rattle.task_steps.proofs.EventLaws.{one_reply}
 use Rattle.task_steps.proofs.OneEventLemmas.{first_reply, first_turn, next_first, plain_forgets, plain_refused, plain_refuses}
-use Rattle.mail_ops.specs.Changing.{MayChangeBox, deleting_refusal, renaming_refusal}
+use Rattle.mail_ops.specs.Changing.{MayChangeBox, renaming_refusal}
 use Rattle.mail_ops.specs.Renaming.{FellRenaming, RenamedSo, RenamesBox, with_name}
 use Rattle.mail_ops.proofs.ChangeCheckLemmas.{ShownMailbox, renaming_checked, renaming_deletes, renaming_steps, shown_box}
 use Rattle.mail_ops.proofs.LoweringLemmas.{comes_with, one_fits}

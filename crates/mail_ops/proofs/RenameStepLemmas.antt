@@ -1,5 +1,5 @@
 -- What the step of a renaming says, by what its event did.
-use Rattle.mail_ops.proofs.Common.{◌≡◌, ◌⊎◌, ℕ, true, false, List, Option, Some, None, refl, sym, ◌∙◌, ap, subst, arith, inl, inr, History, Faults, Did, Refusal, Reply, KeepsRest, KeepsUids, IsStore, StoreValue, indexes_of, refusal_told, told_as, IsStoppedSo, NotDone, ChangesOnlyLogs}
+use Rattle.mail_ops.proofs.Common.{◌≡◌, ◌⊎◌, ℕ, true, false, List, Option, Some, None, refl, sym, ◌∙◌, ap, subst, inl, inr, History, Faults, Did, Refusal, Reply, KeepsRest, KeepsUids, IsStore, StoreValue, refusal_told, told_as, NotDone, ChangesOnlyLogs}
 use Rattle.mdbox_base.specs.Words.{IsName}
 use Rattle.mdbox_base.specs.declared.progress.Did.TheVariants as did
 use Rattle.mdbox_base.specs.declared.progress.Progress.TheVariants as progress

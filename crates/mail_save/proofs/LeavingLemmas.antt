@@ -1,5 +1,5 @@
 -- What a delivery leaves of records, storage files and instances to the tasks beside it, by what an event makes of them.
-use Rattle.mail_save.proofs.Common.{◌≡◌, ◌≢◌, ◌≤◌, ◌+◌, ◌==◌, ℕ, cond, List, [], ◌∷◌, ◌++◌, take, drop, length, map, Option, Some, None, All, inl, inr, refl, sym, ◌∙◌, ap, subst, arith, filter, find, option_map, cases_eq, cond-false, ne_eqb, length-append, All-append, All-cons, All-nil, Detached}
+use Rattle.mail_save.proofs.Common.{◌≡◌, ◌≢◌, ◌≤◌, ◌+◌, ◌==◌, ℕ, false, cond, List, [], ◌∷◌, ◌++◌, take, drop, length, map, Option, Some, None, All, inl, inr, refl, sym, ◌∙◌, ap, subst, arith, filter, find, option_map, cases_eq, cond-false, ne_eqb, length-append, All-append, All-cons, All-nil, Detached}
 use Rattle.mail_save.proofs.Common.{DiskState, History, Between, reading, FileName, Mail, Inst, between-both, between-map, InstRow, FileNo, MapUid, MapMeaning, MapRecord, map_applied, number_at, record_at, files_of, part_row, next_id, instance_file, file-other, FilesValue, end_in, ending_at}
 use Rattle.mail_save.proofs.Common.{file_in, released_in, IsAddedTo, MailFile, Take, Known, New, Full, KeepsInstances, KeepsUids, StoreValue, Claims, IsSameOrSynced, LeavesOthers, LeavesUnlisted, HoldsRegion, HasAppended, ReadsSameMail, TakesWithHeader, WritesAttachment, entry_stored, PlacesParts}
 use Rattle.mail_save.proofs.Common.{TakesFileFor, TookAs, saved_row, SavedParts, SavedAt}
@@ -13,6 +13,7 @@ use Rattle.model_meaning.proofs.AppliedLemmas.{records_by_stored}
 use Rattle.storage_files.specs.Files.{with_pins}
 use Rattle.storage_files.specs.OnDisk.{IsAsKnown}
 use Rattle.task_claims.proofs.CountedLemmas.{all_same, found_same, rows_same, same_map, unraised_same}
+use Rattle.task_claims.proofs.GoneLemmas.{gone_stays}
 use Rattle.task_claims.proofs.NameLemmas.{names_stay}
 use Rattle.task_claims.proofs.RestLemmas.{instance_kept}
 use Rattle.task_claims.specs.Leaving.{HasRegionOctets, HaveSameInstances, LeavesRecord, OthersTook, RaisesNone, SameButCounts, but_count, records_within}
@@ -20,7 +21,7 @@ use Rattle.mail_save.specs.MailFiles.{AddsInstance}
 use Rattle.mail_save.specs.SaveEffects.{AreEndsSame}
 use Rattle.mail_save.proofs.MailFileLemmas.{synced_reads}
 use Rattle.mail_save.proofs.SaveFileLemmas.{released_other, taken_other}
-use Rattle.mail_save.proofs.SaveNumberLemmas.{DrawsNumbers}
+use Rattle.mail_save.proofs.SaveNumberLemmas.{DrawsNumbers, LeavesLogs}
 
 -- ---- records
 
@@ -237,9 +238,9 @@ record_left Own uid row new before after mail k = record {
 }
 
 -- An event that leaves all this, and whose own file no other task has taken or is to remove, leaves to the others what is theirs.
-pub leaves_by : {D : Type 0} → (mine : Claims) (Own : ℕ → Type 0) (old new : StoreValue D) (before after : Option History) → KeepsInstances old new before after → KeepsUids old new → DrawsNumbers old new → old.map_log.room ≤ new.map_log.room → LeavesRecords Own old.map new.map → LeavesKnown Own old.files.files new.files.files → LeavesMailBut Own before after → LeavesUnlisted mine old new
+pub leaves_by : {D : Type 0} → (mine : Claims) (Own : ℕ → Type 0) (old new : StoreValue D) (before after : Option History) → KeepsInstances old new before after → KeepsUids old new → DrawsNumbers old new → LeavesLogs old new → new.stopped ≡ false → LeavesRecords Own old.map new.map → LeavesKnown Own old.files.files new.files.files → LeavesMailBut Own before after → LeavesUnlisted mine old new
     → ((number : ℕ) → OthersTook mine old number → Own number → ⊥) → LeavesOthers mine old new before after
-leaves_by mine Own old new before after keeps uids draws room rows known mail unlisted apart = record {
+leaves_by mine Own old new before after keeps uids draws logs runs rows known mail unlisted apart = record {
   records = λ uid row more there. record_left Own uid row new before after mail (rows.records uid row there);
   unlisted = unlisted;
   files = λ number took. record {
@@ -257,10 +258,12 @@ leaves_by mine Own old new before after keeps uids draws room rows known mail un
   store = keeps.store;
   numbers = draws.numbers;
   mailboxes = draws.mailboxes;
-  names = names_stay old.map new.map draws.boxes;
+  end = logs.end runs;
+  names = inl (names_stay old.map new.map draws.boxes);
+  gone = gone_stays old new draws.boxes logs.made draws.mailboxes;
   compared = keeps.compared;
   firm = keeps.firm;
   uids = uids;
-  room = room;
+  room = logs.room;
   told = between-map GrowsMail (λ a b. Unit {0}) before after (λ a b m. tt) mail.grows;
 }

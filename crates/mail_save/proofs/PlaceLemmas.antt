@@ -46,6 +46,7 @@ pub left_fallen : {D : Type 0} → (old new : StoreValue D) → new ≡ record o
 left_fallen old new fell = record {
   indexes = ap (λ v. indexes_of v.boxes) fell;
   room = (let log = ap (λ v. v.map_log.room) fell in omega (arith, log));
+  end = λ runs. let log = ap (λ v. v.map_log.end) fell in omega (arith, log);
   same = subst (λ (v : StoreValue _). v ≡ record old { disk = v.disk; map_log = v.map_log; boxes = v.boxes; stopped = v.stopped }) (sym fell) refl;
 }
 

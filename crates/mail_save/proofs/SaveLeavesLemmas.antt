@@ -15,7 +15,7 @@ use Rattle.mail_save.proofs.LeavingLemmas.{LeavesMailBut, LeavesRecords, counts_
 use Rattle.mail_save.proofs.SaveClaimLemmas.{stopped_runs}
 use Rattle.mail_save.proofs.SaveEventLemmas.{unfallen}
 use Rattle.mail_save.proofs.SaveFileLemmas.{take_found, taken_undoomed, taken_unemptied}
-use Rattle.mail_save.proofs.SaveNumberLemmas.{DrawsNumbers, save_numbers, save_room}
+use Rattle.mail_save.proofs.SaveNumberLemmas.{DrawsNumbers, LeavesLogs, save_logs, save_numbers}
 use Rattle.mail_save.proofs.SaveStoreLemmas.{due_stays}
 use Rattle.mail_save.proofs.SaveUidLemmas.{uids_stay}
 use Rattle.mail_save.proofs.SaveUnlistedLemmas.{added_unlisted, lowered_unlisted, same_unlisted, stored_unlisted}
@@ -97,16 +97,17 @@ quiet_let_go found old left new gone q = record {
 abbrev NoFile : ℕ → Type 0
 NoFile number = ⊥
 
--- what each event leaves of instances and UIDs
+-- what each event leaves of instances, UIDs and logs
 record Leaves {D : Type 0} (old new : StoreValue D) (before after : Option History) : Type 0 where
   keeps : KeepsInstances old new before after
   uids : KeepsUids old new
   draws : DrawsNumbers old new
-  room : old.map_log.room ≤ new.map_log.room
+  logs : LeavesLogs old new
+  runs : new.stopped ≡ false
 
 quiet_leaves : {D : Type 0} → (mine : Claims) (old new : StoreValue D) (before after : Option History) → Leaves old new before after → LeavesMailBut NoFile before after → IsQuiet old new → LeavesOthers mine old new before after
 quiet_leaves mine old new before after l mail q =
-    leaves_by mine NoFile old new before after l.keeps l.uids l.draws l.room (same_leave NoFile old.map new.map q.map) (same_known NoFile old.files.files new.files.files q.files) mail
+    leaves_by mine NoFile old new before after l.keeps l.uids l.draws l.logs l.runs (same_leave NoFile old.map new.map q.map) (same_known NoFile old.files.files new.files.files q.files) mail
     (same_unlisted mine old new q.indexes (λ uid none rec found. due_stays old new uid q.map q.dues)) (λ number took own. own)
 
 -- instances are let go behind an event
@@ -134,7 +135,7 @@ event_leaves (stage.Attaching parts attaching) stage.Ended name time size (progr
 event_leaves (stage.Taking parts) (stage.Placing laid file) name time size progress.More old new before after is ran order left runs stops replies l w e =
     let t = e.1 in
     let map : new.map ≡ old.map = ap (λ (v : StoreValue _). v.map) t.same in
-    leaves_by (save_claims (stage.Taking parts)) (λ number. number ≡ file.0) old new before after l.keeps l.uids l.draws l.room (same_leave (λ number. number ≡ file.0) old.map new.map map)
+    leaves_by (save_claims (stage.Taking parts)) (λ number. number ≡ file.0) old new before after l.keeps l.uids l.draws l.logs l.runs (same_leave (λ number. number ≡ file.0) old.map new.map map)
     (taking_known (length parts.header) (length parts.laid.region) file old new t) (mail_taken parts.header file.0 old before after ((is.running ran).files_known file.0) w)
     (same_unlisted (save_claims (stage.Taking parts)) old new (ap (λ (v : StoreValue _). indexes_of v.boxes) t.same) (λ uid none rec found. due_stays old new uid map (ap (λ (v : StoreValue _). v.dues) t.same)))
     (λ number took own. free_apart (save_claims (stage.Taking parts)) (length parts.header) (length parts.laid.region) file old new number order t took own)
@@ -142,7 +143,7 @@ event_leaves (stage.Taking parts) stage.Ended name time size (progress.Done (rep
     quiet_leaves (save_claims (stage.Taking parts)) old new before after l (mail_same NoFile before after w) (quiet_let_go parts.rows old e.0 new e.2 (quiet_untaken (length parts.laid.region) why old e.0 (sym (ap (λ (v : StoreValue _). v.stopped) e.2) ∙ runs) e.1))
 event_leaves (stage.Placing parts file) (stage.Storing at rows room) name time size progress.More old new before after is ran order left runs stops replies l w e =
     let map : new.map ≡ old.map = ap (λ (v : StoreValue _). v.map) e.same in
-    leaves_by (save_claims (stage.Placing parts file)) (λ number. number ≡ file.0) old new before after l.keeps l.uids l.draws l.room (same_leave (λ number. number ≡ file.0) old.map new.map map)
+    leaves_by (save_claims (stage.Placing parts file)) (λ number. number ≡ file.0) old new before after l.keeps l.uids l.draws l.logs l.runs (same_leave (λ number. number ≡ file.0) old.map new.map map)
     (placing_known parts file at rows old new e) (mail_appended _ file.0 before after (w left.0.0.2.prepared left.0.0.2.laid))
     (same_unlisted (save_claims (stage.Placing parts file)) old new (ap (λ (v : StoreValue _). indexes_of v.boxes) e.same) (λ uid none rec found. due_stays old new uid map (ap (λ (v : StoreValue _). v.dues) e.same)))
     (λ number took own. own_apart (save_claims (stage.Placing parts file)) old file.0 number order left.1.taken (at_one file.0) took own)
@@ -151,7 +152,7 @@ event_leaves (stage.Storing at rows room) (stage.Adding added kept) name time si
     let made = e.1 in
     let gone = e.2 in
     let mine : Claims = save_claims (stage.Storing at rows room) in
-    leaves_by mine (λ number. number ≡ at.file.0) old new before after l.keeps l.uids l.draws l.room
+    leaves_by mine (λ number. number ≡ at.file.0) old new before after l.keeps l.uids l.draws l.logs l.runs
     (subst (λ (m : MapMeaning). LeavesRecords (λ number. number ≡ at.file.0) old.map m) (sym (ap (λ (v : StoreValue _). v.map) gone ∙ made.map)) (stored_leave added.map_uid at rows old.map left.0.guid_file))
     (released_known at old new left.0 (ap (λ (v : StoreValue _). v.files.files) gone ∙ ap (λ (v : StoreValue _). v.files.files) made.same) (λ number. ap (λ (v : StoreValue _). end_in number v.files.files) gone ∙ made.ends number))
     (mail_same (λ number. number ≡ at.file.0) before after w)
@@ -166,18 +167,18 @@ event_leaves (stage.Storing at rows room) stage.Ended name time size (progress.D
     by_cause (inl k) = stopped_runs why new.stopped stops runs k.0
     by_cause (inr k) =
         let map : new.map ≡ old.map = ap (λ (v : StoreValue _). v.map) e.2 ∙ ap (λ (v : StoreValue _). v.map) k.1.same in
-        leaves_by mine (λ number. number ≡ at.file.0) old new before after l.keeps l.uids l.draws l.room (same_leave (λ number. number ≡ at.file.0) old.map new.map map)
+        leaves_by mine (λ number. number ≡ at.file.0) old new before after l.keeps l.uids l.draws l.logs l.runs (same_leave (λ number. number ≡ at.file.0) old.map new.map map)
         (released_known at old new left.0 (ap (λ (v : StoreValue _). v.files.files) e.2 ∙ ap (λ (v : StoreValue _). v.files.files) k.1.same) (λ number. ap (λ (v : StoreValue _). end_in number v.files.files) e.2 ∙ k.1.ends number))
         (mail_same (λ number. number ≡ at.file.0) before after w)
         (same_unlisted mine old new (ap (λ (v : StoreValue _). indexes_of v.boxes) e.2 ∙ ap (λ (v : StoreValue _). indexes_of v.boxes) k.1.same) (λ uid none rec found. due_stays old new uid map (ap (λ (v : StoreValue _). v.dues) e.2 ∙ ap (λ (v : StoreValue _). v.dues) k.1.same)))
         (λ number took own. own_apart mine old at.file.0 number order left.0.taken (at_one at.file.0) took own)
 event_leaves (stage.Adding added room) stage.Ended name time size (progress.Done (reply.Saved uid guid)) old new before after is ran order left runs stops replies l w e =
-    leaves_by (save_claims (stage.Adding added room)) NoFile old new before after l.keeps l.uids l.draws l.room (same_leave NoFile old.map new.map (ap (λ (v : StoreValue _). v.map) e.1.same)) (same_known NoFile old.files.files new.files.files (ap (λ (v : StoreValue _). v.files.files) e.1.same))
+    leaves_by (save_claims (stage.Adding added room)) NoFile old new before after l.keeps l.uids l.draws l.logs l.runs (same_leave NoFile old.map new.map (ap (λ (v : StoreValue _). v.map) e.1.same)) (same_known NoFile old.files.files new.files.files (ap (λ (v : StoreValue _). v.files.files) e.1.same))
     (mail_same NoFile before after w) (added_unlisted (save_claims (stage.Adding added room)) name added uid old new before (λ u. refl) is left.0 e.1) (λ number took own. own)
 event_leaves (stage.Adding added room) stage.Ended name time size (progress.Done (reply.Refused why)) old new before after is ran order left runs stops replies l w e = quiet_leaves (save_claims (stage.Adding added room)) old new before after l (mail_same NoFile before after w) (quiet_alone old new e)
 event_leaves (stage.Adding added room) (stage.GivingBack uid why kept) name time size progress.More old new before after is ran order left runs stops replies l w e = quiet_leaves (save_claims (stage.Adding added room)) old new before after l (mail_same NoFile before after w) (quiet_same old new e.1)
 event_leaves (stage.GivingBack uid why room) stage.Ended name time size (progress.Done (reply.Refused given)) old new before after is ran order left runs stops replies l w (inl e) =
-    leaves_by (save_claims (stage.GivingBack uid why room)) NoFile old new before after l.keeps l.uids l.draws l.room (subst (λ (m : MapMeaning). LeavesRecords NoFile old.map m) (sym e.1.map) (counts_leave NoFile old.map _ (lowered_same (uid ∷ []) old.map) (unraised_lower (uid ∷ []) old.map)))
+    leaves_by (save_claims (stage.GivingBack uid why room)) NoFile old new before after l.keeps l.uids l.draws l.logs l.runs (subst (λ (m : MapMeaning). LeavesRecords NoFile old.map m) (sym e.1.map) (counts_leave NoFile old.map _ (lowered_same (uid ∷ []) old.map) (unraised_lower (uid ∷ []) old.map)))
     (same_known NoFile old.files.files new.files.files (ap (λ (v : StoreValue _). v.files.files) e.1.same)) (mail_same NoFile before after w) (lowered_unlisted (save_claims (stage.GivingBack uid why room)) uid old new (λ u. refl) e.1) (λ number took own. own)
 event_leaves (stage.GivingBack uid why room) stage.Ended name time size (progress.Done (reply.Refused given)) old new before after is ran order left runs stops replies l w (inr e) = quiet_leaves (save_claims (stage.GivingBack uid why room)) old new before after l (mail_same NoFile before after w) (quiet_alone old new e.1)
 event_leaves now next name time size answer old new before after is ran order left runs stops replies l w e = absurd e
@@ -186,4 +187,4 @@ pub save_leaves : {D : Type 0} → (now next : SaveStage) (name : List ℕ) (tim
     → Saves now next name time size answer how old new before after began faulted → LeavesOthers (save_claims now) old new before after
 save_leaves now next name time size answer how old new before after began faulted is ran order drawn left runs s =
     let draws : DrawsNumbers old new = save_numbers now next name time size answer old new drawn runs s.effects in
-    event_leaves now next name time size answer old new before after is ran order left runs s.stopped s.replies (record { keeps = s.instances runs; uids = uids_stay now next name time size answer old new draws s.effects; draws = draws; room = save_room now next name time size answer old new s.effects }) (s.mail runs) s.effects
+    event_leaves now next name time size answer old new before after is ran order left runs s.stopped s.replies (record { keeps = s.instances runs; uids = uids_stay now next name time size answer old new draws s.effects; draws = draws; logs = save_logs now next name time size answer old new s.effects; runs = runs }) (s.mail runs) s.effects

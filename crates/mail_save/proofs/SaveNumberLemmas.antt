@@ -130,51 +130,69 @@ save_numbers (stage.GivingBack uid why room) stage.Ended name time size (progres
 save_numbers (stage.GivingBack uid why room) stage.Ended name time size (progress.Done (reply.Refused given)) old new drawn runs (inr e) = alone_numbers old new e.1
 save_numbers now next name time size answer old new drawn runs e = absurd e
 
--- ---- the room of the map log
+-- ---- the map log, and logs that were made
 
--- the same log has the same room
-same_room : {D : Type 0} → (old new : StoreValue D) → new.map_log.room ≡ old.map_log.room → old.map_log.room ≤ new.map_log.room
-same_room old new same = omega (arith, same)
+-- The map log has no less room, and unless the store is stopped it is no shorter. The logs that were made are the same.
+pub record LeavesLogs {D : Type 0} (old new : StoreValue D) : Type 0 where
+  pub room : old.map_log.room ≤ new.map_log.room
+  pub end : new.stopped ≡ false → old.map_log.end ≤ new.map_log.end
+  pub made : new.made ≡ old.made
+
+same_logs : {D : Type 0} → (old new : StoreValue D) → new.map_log ≡ old.map_log → new.made ≡ old.made → LeavesLogs old new
+same_logs old new log made = record {
+  room = rw log (omega arith);
+  end = λ runs. rw log (omega arith);
+  made = made;
+}
 
 -- also behind an event by which instances are let go
-room_behind : {D : Type 0} → (found : List InstRow) (old left new : StoreValue D) → LetsGo found left new → old.map_log.room ≤ left.map_log.room → old.map_log.room ≤ new.map_log.room
-room_behind found old left new gone room = subst (λ (v : StoreValue _). old.map_log.room ≤ v.map_log.room) (sym gone) room
+logs_behind : {D : Type 0} → (found : List InstRow) (old left new : StoreValue D) → LetsGo found left new → LeavesLogs old left → LeavesLogs old new
+logs_behind found old left new gone logs = subst (λ (v : StoreValue _). LeavesLogs old v) (sym gone) (record { room = logs.room; end = logs.end; made = logs.made })
 
-attached_room : {D : Type 0} → (attaching more : AttachingValue) (old new : StoreValue D) → AttachesNext attaching more old new → old.map_log.room ≤ new.map_log.room
-attached_room attaching more old new (inl k) = same_room old new (ap (λ (v : StoreValue _). v.map_log.room) k.same)
-attached_room attaching more old new (inr k) = same_room old new (ap (λ (v : StoreValue _). v.map_log.room) k.same)
+logs_as : {D : Type 0} → (old new : StoreValue D) → new ≡ old → LeavesLogs old new
+logs_as old new same = same_logs old new (ap (λ (v : StoreValue _). v.map_log) same) (ap (λ (v : StoreValue _). v.made) same)
 
-unattached_room : {D : Type 0} → (attaching : AttachingValue) (why : Refusal) (old new : StoreValue D) → AttachesNone attaching why old new → old.map_log.room ≤ new.map_log.room
-unattached_room attaching refusal.Stopped old new k = same_room old new (ap (λ (v : StoreValue _). v.map_log.room) k.2)
-unattached_room attaching refusal.ReadFault old new k = same_room old new (ap (λ (v : StoreValue _). v.map_log.room) k.1)
-unattached_room attaching why old new k = same_room old new (ap (λ (v : StoreValue _). v.map_log.room) k.1)
+attached_logs : {D : Type 0} → (attaching more : AttachingValue) (old new : StoreValue D) → AttachesNext attaching more old new → LeavesLogs old new
+attached_logs attaching more old new (inl k) = same_logs old new (ap (λ (v : StoreValue _). v.map_log) k.same) (ap (λ (v : StoreValue _). v.made) k.same)
+attached_logs attaching more old new (inr k) = same_logs old new (ap (λ (v : StoreValue _). v.map_log) k.same) (ap (λ (v : StoreValue _). v.made) k.same)
 
-untaken_room : {D : Type 0} → (size : ℕ) (why : Refusal) (old new : StoreValue D) → TakesNone size why old new → old.map_log.room ≤ new.map_log.room
-untaken_room size why old new (inl k) = same_room old new (ap (λ (v : StoreValue _). v.map_log.room) k.1)
-untaken_room size why old new (inr (inl k)) = same_room old new (ap (λ (v : StoreValue _). v.map_log.room) k.1.same)
-untaken_room size why old new (inr (inr k)) = same_room old new (ap (λ (v : StoreValue _). v.map_log.room) k.1.same)
+unattached_logs : {D : Type 0} → (attaching : AttachingValue) (why : Refusal) (old new : StoreValue D) → AttachesNone attaching why old new → LeavesLogs old new
+unattached_logs attaching refusal.Stopped old new k = same_logs old new (ap (λ (v : StoreValue _). v.map_log) k.2) (ap (λ (v : StoreValue _). v.made) k.2)
+unattached_logs attaching refusal.ReadFault old new k = same_logs old new (ap (λ (v : StoreValue _). v.map_log) k.1) (ap (λ (v : StoreValue _). v.made) k.1)
+unattached_logs attaching why old new k = same_logs old new (ap (λ (v : StoreValue _). v.map_log) k.1) (ap (λ (v : StoreValue _). v.made) k.1)
 
-unstored_room : {D : Type 0} → (at : SavedAt) (why : Refusal) (old new : StoreValue D) → StoresNone at why old new → old.map_log.room ≤ new.map_log.room
-unstored_room at why old new (inl k) = k.1.room
-unstored_room at why old new (inr k) = same_room old new (ap (λ (v : StoreValue _). v.map_log.room) k.1.same)
+untaken_logs : {D : Type 0} → (size : ℕ) (why : Refusal) (old new : StoreValue D) → TakesNone size why old new → LeavesLogs old new
+untaken_logs size why old new (inl k) = logs_as old new k.1
+untaken_logs size why old new (inr (inl k)) = same_logs old new (ap (λ (v : StoreValue _). v.map_log) k.1.same) (ap (λ (v : StoreValue _). v.made) k.1.same)
+untaken_logs size why old new (inr (inr k)) = same_logs old new (ap (λ (v : StoreValue _). v.map_log) k.1.same) (ap (λ (v : StoreValue _). v.made) k.1.same)
 
--- it never falls
-pub save_room : {D : Type 0} → (now next : SaveStage) (name : List ℕ) (time size : ℕ) (answer : Progress) (old new : StoreValue D) → SaveEffects now next name time size answer old new → old.map_log.room ≤ new.map_log.room
-save_room (stage.First prepared) (stage.Attaching parts attaching) name time size progress.More old new e = same_room old new (ap (λ (v : StoreValue _). v.map_log.room) e.0)
-save_room (stage.First prepared) (stage.Taking parts) name time size progress.More old new e = same_room old new (ap (λ (v : StoreValue _). v.map_log.room) e.0)
-save_room (stage.First prepared) stage.Ended name time size (progress.Done (reply.Refused why)) old new e = same_room old new (ap (λ (v : StoreValue _). v.map_log.room) e)
-save_room (stage.Attaching parts attaching) (stage.Attaching laid more) name time size progress.More old new e = attached_room attaching more old new e.1
-save_room (stage.Attaching parts attaching) (stage.Taking named) name time size progress.More old new e = attached_room attaching e.0 old new e.1
-save_room (stage.Attaching parts attaching) stage.Ended name time size (progress.Done (reply.Refused why)) old new e = room_behind attaching.found old e.0 new e.2 (unattached_room attaching why old e.0 e.1)
-save_room (stage.Taking parts) (stage.Placing laid file) name time size progress.More old new e = same_room old new (ap (λ (v : StoreValue _). v.map_log.room) e.1.same)
-save_room (stage.Taking parts) stage.Ended name time size (progress.Done (reply.Refused why)) old new e = room_behind parts.rows old e.0 new e.2 (untaken_room (length parts.laid.region) why old e.0 e.1)
-save_room (stage.Placing parts file) (stage.Storing at rows room) name time size progress.More old new e = same_room old new (ap (λ (v : StoreValue _). v.map_log.room) e.same)
-save_room (stage.Placing parts file) stage.Ended name time size (progress.Done (reply.Refused why)) old new e = room_behind parts.rows old e.0 new e.2 e.1.room
-save_room (stage.Storing at rows room) (stage.Adding added left) name time size progress.More old new e = room_behind rows old e.0 new e.2 e.1.room
-save_room (stage.Storing at rows room) stage.Ended name time size (progress.Done (reply.Refused why)) old new e = room_behind rows old e.0 new e.2 (unstored_room at why old e.0 e.1)
-save_room (stage.Adding added room) stage.Ended name time size (progress.Done (reply.Saved uid guid)) old new e = same_room old new (ap (λ (v : StoreValue _). v.map_log.room) e.1.same)
-save_room (stage.Adding added room) stage.Ended name time size (progress.Done (reply.Refused why)) old new e = e.room
-save_room (stage.Adding added room) (stage.GivingBack uid why left) name time size progress.More old new e = same_room old new (ap (λ (v : StoreValue _). v.map_log.room) e.1)
-save_room (stage.GivingBack uid why room) stage.Ended name time size (progress.Done (reply.Refused given)) old new (inl e) = e.1.room
-save_room (stage.GivingBack uid why room) stage.Ended name time size (progress.Done (reply.Refused given)) old new (inr e) = e.1.room
-save_room now next name time size answer old new e = absurd e
+alone_logs : {D : Type 0} → (old new : StoreValue D) → IsLeftAlone old new → LeavesLogs old new
+alone_logs old new k = record { room = k.room; end = k.end; made = ap (λ (v : StoreValue _). v.made) k.same }
+
+unstored_logs : {D : Type 0} → (at : SavedAt) (why : Refusal) (old new : StoreValue D) → StoresNone at why old new → LeavesLogs old new
+unstored_logs at why old new (inl k) = alone_logs old new k.1
+unstored_logs at why old new (inr k) = same_logs old new (ap (λ (v : StoreValue _). v.map_log) k.1.same) (ap (λ (v : StoreValue _). v.made) k.1.same)
+
+-- so each event leaves them
+pub save_logs : {D : Type 0} → (now next : SaveStage) (name : List ℕ) (time size : ℕ) (answer : Progress) (old new : StoreValue D) → SaveEffects now next name time size answer old new → LeavesLogs old new
+save_logs (stage.First prepared) (stage.Attaching parts attaching) name time size progress.More old new e = logs_as old new e.0
+save_logs (stage.First prepared) (stage.Taking parts) name time size progress.More old new e = logs_as old new e.0
+save_logs (stage.First prepared) stage.Ended name time size (progress.Done (reply.Refused why)) old new e = logs_as old new e
+save_logs (stage.Attaching parts attaching) (stage.Attaching laid more) name time size progress.More old new e = attached_logs attaching more old new e.1
+save_logs (stage.Attaching parts attaching) (stage.Taking named) name time size progress.More old new e = attached_logs attaching e.0 old new e.1
+save_logs (stage.Attaching parts attaching) stage.Ended name time size (progress.Done (reply.Refused why)) old new e = logs_behind attaching.found old e.0 new e.2 (unattached_logs attaching why old e.0 e.1)
+save_logs (stage.Taking parts) (stage.Placing laid file) name time size progress.More old new e = same_logs old new (ap (λ (v : StoreValue _). v.map_log) e.1.same) (ap (λ (v : StoreValue _). v.made) e.1.same)
+save_logs (stage.Taking parts) stage.Ended name time size (progress.Done (reply.Refused why)) old new e = logs_behind parts.rows old e.0 new e.2 (untaken_logs (length parts.laid.region) why old e.0 e.1)
+save_logs (stage.Placing parts file) (stage.Storing at rows room) name time size progress.More old new e = same_logs old new (ap (λ (v : StoreValue _). v.map_log) e.same) (ap (λ (v : StoreValue _). v.made) e.same)
+save_logs (stage.Placing parts file) stage.Ended name time size (progress.Done (reply.Refused why)) old new e = logs_behind parts.rows old e.0 new e.2 (alone_logs old e.0 e.1)
+save_logs (stage.Storing at rows room) (stage.Adding added left) name time size progress.More old new e =
+    let s = e.1 in
+    logs_behind rows old e.0 new e.2 (record { room = s.room; end = λ runs. let further = s.further in omega (arith, further); made = ap (λ (v : StoreValue _). v.made) s.same })
+save_logs (stage.Storing at rows room) stage.Ended name time size (progress.Done (reply.Refused why)) old new e = logs_behind rows old e.0 new e.2 (unstored_logs at why old e.0 e.1)
+save_logs (stage.Adding added room) stage.Ended name time size (progress.Done (reply.Saved uid guid)) old new e = same_logs old new (ap (λ (v : StoreValue _). v.map_log) e.1.same) (ap (λ (v : StoreValue _). v.made) e.1.same)
+save_logs (stage.Adding added room) stage.Ended name time size (progress.Done (reply.Refused why)) old new e = alone_logs old new e
+save_logs (stage.Adding added room) (stage.GivingBack uid why left) name time size progress.More old new e = logs_as old new e.1
+save_logs (stage.GivingBack uid why room) stage.Ended name time size (progress.Done (reply.Refused given)) old new (inl e) =
+    let s = e.1 in record { room = s.room; end = λ runs. let further = s.further in omega (arith, further); made = ap (λ (v : StoreValue _). v.made) s.same }
+save_logs (stage.GivingBack uid why room) stage.Ended name time size (progress.Done (reply.Refused given)) old new (inr e) = alone_logs old new e.1
+save_logs now next name time size answer old new e = absurd e

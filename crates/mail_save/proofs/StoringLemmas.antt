@@ -1,5 +1,5 @@
 -- What storing a record, and lowering its count, make of a store.
-use Rattle.mail_save.proofs.Common.{◌≡◌, ◌≤◌, ◌+◌, ℕ, List, [], Option, Some, None, Err, inl, inr, refl, sym, ◌∙◌, ap, subst, arith, All-nil, All-cons, History, Between, between-map, Highest, InstRow, MapEntry, MapUid, Refusal, HasRecord, MapFits, MapRecord, MapMeaning, map_applied, record_at}
+use Rattle.mail_save.proofs.Common.{◌≡◌, ◌≤◌, ◌<◌, ◌+◌, ℕ, true, List, [], Option, Some, None, Err, inl, inr, refl, sym, ◌∙◌, ap, subst, arith, All-nil, All-cons, History, Between, between-map, Highest, InstRow, MapEntry, MapUid, Refusal, HasRecord, MapFits, MapRecord, MapMeaning, map_applied, record_at}
 use Rattle.mail_save.proofs.Common.{files_of, StoresMessage, end_in, is_taken_in, released_in, due_at, KeepsStored, KeepsFirm, StoreValue, indexes_of, uid_refusal, entry_stored, entry_lowered, AreSpared, IsLeftAlone, LowersRecord, StoresNone, StoresPlaced, saved_row, SavedAt}
 use Rattle.std.proofs.Common.{Ok}
 use Rattle.std.specs.Prelude.{◌⊎◌, IfOk, IfErr, Result}
@@ -8,6 +8,7 @@ use Rattle.model_appends.specs.Amounts.{due_by}
 use Rattle.store_core.specs.MapAppend.{drawn_by}
 use Rattle.mail_save.specs.SaveEffects.{GivesFileBack}
 use Rattle.mail_save.proofs.FaultLemmas.{uid_unread}
+use Rattle.mail_save.proofs.SaveEventLemmas.{unfallen}
 use Rattle.mail_save.proofs.TakingLemmas.{released_others}
 
 -- ---- behind an append to the map log
@@ -30,9 +31,9 @@ pub stores_placed : {D : Type 0} → (at : SavedAt) (rows : List InstRow) (time 
     → mid.map ≡ map_applied (entry_stored rows uid at) old.map → record_at mid.map uid.0 ≡ Some (saved_row rows uid at)
     → mid.drawn ≡ record old.drawn { map = uid.0 }
     → ((other : ℕ) → due_at other mid ≡ due_by (entry_stored rows uid at) (λ k. due_at k old) other)
-    → mid.map.boxes ≡ old.map.boxes → IsMapChange old mid → old.map_log.room ≤ mid.map_log.room → new ≡ giver_store at.file.0 mid → ((number : ℕ) → end_in number new.files.files ≡ end_in number mid.files.files)
+    → mid.map.boxes ≡ old.map.boxes → IsMapChange old mid → old.map_log.room ≤ mid.map_log.room → old.map_log.end < mid.map_log.end → new ≡ giver_store at.file.0 mid → ((number : ℕ) → end_in number new.files.files ≡ end_in number mid.files.files)
     → StoresPlaced at rows time size (record { map_uid = uid; guid = at.guid; time = time; size = size }) old new
-stores_placed at rows time size uid old mid new next high fits taken there drawn due boxes same room given ends = record {
+stores_placed at rows time size uid old mid new next high fits taken there drawn due boxes same room further given ends = record {
   uid_is = next;
   few = omega (arith, next, high);
   fits = fits;
@@ -47,6 +48,7 @@ stores_placed at rows time size uid old mid new next high fits taken there drawn
   ends = λ number. ends number ∙ ap (λ v. end_in number v.files.files) same;
   others = λ number apart. ap (λ v. is_taken_in number v.files.files) given ∙ (released_others at.file.0 number mid.files.files apart ∙ ap (λ v. is_taken_in number v.files.files) same);
   room = subst (λ (v : StoreValue _). old.map_log.room ≤ v.map_log.room) (sym given) room;
+  further = subst (λ (v : StoreValue _). old.map_log.end < v.map_log.end) (sym given) further;
   same = given_change at.file.0 old mid new same given;
 }
 
@@ -62,10 +64,11 @@ alone_as : {D : Type 0} → (old new v : StoreValue D) → new ≡ v → v ≡ r
 alone_as old new v is at = subst (λ (w : StoreValue _). w ≡ record old { disk = w.disk; map_log = w.map_log; boxes = w.boxes; stopped = w.stopped }) (sym is) at
 
 -- a change of the disk failed
-pub left_alone : {D : Type 0} → (old new : StoreValue D) → IsMapChange old new → old.map_log.room ≤ new.map_log.room → new.map ≡ old.map → new.drawn ≡ old.drawn → new.dues ≡ old.dues → IsLeftAlone old new
-left_alone old new same room map drawn dues = record {
+pub left_alone : {D : Type 0} → (old new : StoreValue D) → new.stopped ≡ true → IsMapChange old new → old.map_log.room ≤ new.map_log.room → new.map ≡ old.map → new.drawn ≡ old.drawn → new.dues ≡ old.dues → IsLeftAlone old new
+left_alone old new fell same room map drawn dues = record {
   indexes = ap (λ v. indexes_of v.boxes) same;
   room = room;
+  end = λ runs. absurd (unfallen new.stopped fell runs);
   same = alone_as old new (record old { disk = new.disk; map_log = new.map_log; stopped = new.stopped }) (same
       ∙ (ap (λ (m : MapMeaning). record old { disk = new.disk; map_log = new.map_log; map = m; drawn = new.drawn; dues = new.dues; stopped = new.stopped }) map
       ∙ (ap (λ (d : Highest). record old { disk = new.disk; map_log = new.map_log; drawn = d; dues = new.dues; stopped = new.stopped }) drawn ∙ ap (λ (n : List ℕ). record old { disk = new.disk; map_log = new.map_log; dues = n; stopped = new.stopped }) dues))) refl;
@@ -75,17 +78,19 @@ pub left_unadded : {D : Type 0} → (old new : StoreValue D) → new ≡ record 
 left_unadded old new same indexes dues = record {
   indexes = indexes;
   room = (let log = ap (λ v. v.map_log.room) same in omega (arith, log));
+  end = λ runs. let log = ap (λ v. v.map_log.end) same in omega (arith, log);
   same = alone_as old new (record old { disk = new.disk; boxes = new.boxes; stopped = new.stopped }) (same ∙ ap (λ (n : List ℕ). record old { disk = new.disk; boxes = new.boxes; dues = n; stopped = new.stopped }) dues) refl;
 }
 
-pub lowers_record : {D : Type 0} → (uid : MapUid) (entry : MapEntry) (old new : StoreValue D) → entry ≡ entry_lowered uid → HasRecord old.map uid.0 (λ row. 1 ≤ row.count) → IsMapChange old new → old.map_log.room ≤ new.map_log.room → new.map ≡ map_applied entry old.map → new.map.boxes ≡ old.map.boxes → new.drawn ≡ drawn_by entry old.drawn
+pub lowers_record : {D : Type 0} → (uid : MapUid) (entry : MapEntry) (old new : StoreValue D) → entry ≡ entry_lowered uid → HasRecord old.map uid.0 (λ row. 1 ≤ row.count) → IsMapChange old new → old.map_log.room ≤ new.map_log.room → old.map_log.end < new.map_log.end → new.map ≡ map_applied entry old.map → new.map.boxes ≡ old.map.boxes → new.drawn ≡ drawn_by entry old.drawn
     → ((other : ℕ) → due_at other new ≡ due_by entry (λ k. due_at k old) other) → LowersRecord uid old new
-lowers_record uid entry old new is there same room taken boxes drawn due = record {
+lowers_record uid entry old new is there same room further taken boxes drawn due = record {
   fits = (λ k within. absurd (omega (arith, within)), All-cons (λ (u : MapUid). HasRecord old.map u.0 (λ row. 1 ≤ row.count)) uid [] there (All-nil _));
   map = taken ∙ ap (λ (e : MapEntry). map_applied e old.map) is;
   due = λ other. due other ∙ ap (λ (e : MapEntry). due_by e (λ k. due_at k old) other) is;
   mailboxes = boxes;
   room = room;
+  further = further;
   same = same ∙ ap (λ (d : Highest). record old { disk = new.disk; map_log = new.map_log; map = new.map; drawn = d; dues = new.dues; stopped = new.stopped }) (drawn ∙ ap (λ (e : MapEntry). drawn_by e old.drawn) is);
 }
 

@@ -22,6 +22,7 @@ use Rattle.model_meaning.proofs.MapSoundLemmas.{greatest_fits}
 use Rattle.model_octets.proofs.PairLemmas.{all_map, pairs_map}
 use Rattle.store_core.specs.Keeping.{SyncsInstances}
 use Rattle.task_claims.specs.Leaving.{SyncsMail}
+use Rattle.task_claims.proofs.GoneLemmas.{gone_stays}
 use Rattle.task_claims.proofs.RestLemmas.{record_kept}
 use Rattle.purge_task.specs.Found.{AreUncleanFound, FindsUnclean, IsFindRefusal, LacksTargets, targets_in}
 use Rattle.purge_task.specs.Reserved.{IsNewWork}
@@ -59,9 +60,9 @@ stays : (n : ℕ) → n ≤ n
 stays n = omega arith
 
 -- An event that changes nothing of the disk, and of the storage files only those that no task has taken, and where none ends.
-pub first_leaves : {D : Type 0} → (mine : Claims) (disk : D) (log : LogState) (files : FilesValue) (drawn : Highest) (old : StoreValue D) (before after : Option History) → IsIdle before after → old.map_log.room ≤ log.room → ((n : ℕ) → OthersTook mine old n → file_in n files.files ≡ file_in n old.files.files) → ((n : ℕ) → end_in n files.files ≡ end_in n old.files.files)
+pub first_leaves : {D : Type 0} → (mine : Claims) (disk : D) (log : LogState) (files : FilesValue) (drawn : Highest) (old : StoreValue D) (before after : Option History) → IsIdle before after → old.map_log.room ≤ log.room → old.map_log.end ≤ log.end → ((n : ℕ) → OthersTook mine old n → file_in n files.files ≡ file_in n old.files.files) → ((n : ℕ) → end_in n files.files ≡ end_in n old.files.files)
     → LeavesOthers mine old (with_first disk log files drawn old) before after
-first_leaves mine disk log files drawn old before after idle room known ends =
+first_leaves mine disk log files drawn old before after idle room end known ends =
     let new : StoreValue _ = with_first disk log files drawn old in
     let mail : SyncsMail before after = idle_syncs before after idle in
     let firm : KeepsFirm old new before after = firm_same old new before after refl refl (between-map (λ a b. b ≡ a) SyncsInstances before after (λ a b e hash id. inl (ap (λ (d : DiskState). d (file.Inst hash id)) e)) idle.same) in
@@ -85,7 +86,9 @@ first_leaves mine disk log files drawn old before after idle room known ends =
       store = refl;
       numbers = none_placed old.instances;
       mailboxes = stays old.map.highest.mailbox;
-      names = λ name number is. is;
+      end = end;
+      names = inl (λ name number is. is);
+      gone = gone_stays old new refl refl (stays old.map.highest.mailbox);
       compared = keeps.compared;
       firm = firm;
       uids = λ number uid held k. record { given = k.given; below = k.below; same = k.same };
@@ -136,7 +139,7 @@ refused_says {D = D} H F t next why fs spare room old new at to other cause runs
   regions = λ r. regions_idle old new.map (H old.disk) (H new.disk) store runs (ap (λ (s : StoreValue D). s.map) is) idle;
   claims = λ r. record {
     moves = λ thing. (let a = first_claims t.stage thing at in let b = first_claims next.stage thing to in let c = ap (λ (s : StoreValue D). amount_in thing s) is in let d = room_amounts new.disk spare room old thing in omega (arith, a, b, c, d));
-    leaves = subst (λ (s : StoreValue D). LeavesOthers (purge_claims t.stage) old s (H old.disk) (H new.disk)) (sym is) (first_leaves (purge_claims t.stage) new.disk (record old.map_log { room = room }) (record old.files { spare = spare }) old.drawn old (H old.disk) (H new.disk) idle more (λ n took. refl) (λ n. refl));
+    leaves = subst (λ (s : StoreValue D). LeavesOthers (purge_claims t.stage) old s (H old.disk) (H new.disk)) (sym is) (first_leaves (purge_claims t.stage) new.disk (record old.map_log { room = room }) (record old.files { spare = spare }) old.drawn old (H old.disk) (H new.disk) idle more (stays old.map_log.end) (λ n took. refl) (λ n. refl));
     ended = λ given e thing. first_claims next.stage thing to;
   };
   grows = idle_grows (H old.disk) (H new.disk) idle;
@@ -285,7 +288,7 @@ taken_says {D = D} H F t next found work now spare room old new at to how droppe
   claims = λ r. record {
     moves = moves;
     leaves = subst (λ (s : StoreValue D). LeavesOthers (purge_claims t.stage) old s (H old.disk) (H new.disk)) (sym is)
-        (first_leaves (purge_claims t.stage) new.disk log new.files (record old.drawn { file = old.drawn.file + found.targets }) old (H old.disk) (H new.disk) idle x.more others (λ n. begun_is.ended n));
+        (first_leaves (purge_claims t.stage) new.disk log new.files (record old.drawn { file = old.drawn.file + found.targets }) old (H old.disk) (H new.disk) idle x.more (stays old.map_log.end) others (λ n. begun_is.ended n));
     ended = λ given e. absurd (let k : progress.More ≡ progress.Done given = e in cc k);
   };
   grows = idle_grows (H old.disk) (H new.disk) idle;

@@ -12,6 +12,7 @@ use Rattle.store_core.specs.Removing.{NameOthers}
 use Rattle.store_core.specs.StoreInstances.{IsFirstKnown, IsOtherThan}
 use Rattle.store_core.proofs.InstanceKeepingLemmas.{reads_placed}
 use Rattle.task_claims.specs.Leaving.{LeavesFile, LeavesInstance}
+use Rattle.task_claims.proofs.GoneLemmas.{gone_stays}
 use Rattle.purge_task.proofs.InstanceSeenLemmas.{other_with, without_it}
 use Rattle.purge_task.proofs.RemovalSeenLemmas.{without}
 
@@ -90,7 +91,9 @@ removal_leaves mine n disk old before after elsewhere untaken ungrown same firm 
       store = refl;
       numbers = none_placed old.instances;
       mailboxes = stays old.map.highest.mailbox;
-      names = λ name number is. is;
+      end = stays old.map_log.end;
+      names = inl (λ name number is. is);
+      gone = gone_stays old new refl refl (stays old.map.highest.mailbox);
       compared = keeps.compared;
       firm = firm;
       uids = λ number uid held k. record { given = k.given; below = k.below; same = k.same };
@@ -205,7 +208,9 @@ gone_leaves mine k disk old before after none others same firm = record {
     last = λ some. absurd (some refl);
   };
   mailboxes = stays old.map.highest.mailbox;
-  names = λ name number is. is;
+  end = stays old.map_log.end;
+  names = inl (λ name number is. is);
+  gone = gone_stays old (without_it k.row.id disk old) refl refl (stays old.map.highest.mailbox);
   compared = λ hash size octets last drawn le. compared_still old.instances.store hash size octets last drawn k.row old.instances.known before after same;
   firm = firm;
   uids = λ number uid held x. record { given = x.given; below = x.below; same = x.same };

@@ -432,8 +432,8 @@ says_of {D = D} t next work later source spent left moved dropped disk log dues 
 -- what the call says of the switch
 pub made_switch : {D : Type 0} → (work : Work) (source : Source) (left : List Source) (switched : Switched) (old new : StoreValue D) (before after : Option History) → IsSwitchedOne work source left old before → (s : IsSwitched source switched old new)
     → ((uid : ℕ) → due_at uid new ≡ due_at uid old) → ((uid : ℕ) (row : MapRecord) → record_at old.map uid ≡ Some row → 1 ≤ row.count → IsSpared uid row new before after) → ReadsMail before after → KeepsButTarget source.target before after → KeepsFirm old new before after
-    → old.map_log.room ≤ new.map_log.room → new.map.boxes ≡ old.map.boxes → IsSwitchMade source s.moved s.dropped old new before after
-made_switch work source left switched old new before after one s due spared reads kept firm room boxes = record {
+    → old.map_log.room ≤ new.map_log.room → old.map_log.end < new.map_log.end → new.map.boxes ≡ old.map.boxes → IsSwitchMade source s.moved s.dropped old new before after
+made_switch work source left switched old new before after one s due spared reads kept firm room further boxes = record {
   fits = s.fits;
   untargeted = none_written source.target source old.map old before s.moved s.dropped s.listed one.ready.target;
   copied = copies_as old old before before source.target source.file.0 source.copied.items s.dropped source s.moved s.moved refl (reads_begin before) s.listed refl one.ready.target;
@@ -443,6 +443,7 @@ made_switch work source left switched old new before after one s due spared read
   kept = kept;
   firm = firm;
   room = room;
+  further = further;
   boxes = boxes;
 }
 

@@ -15,6 +15,7 @@ use Rattle.model_store.specs.Listing.{meaning_numbered}
 use Rattle.store_core.specs.Value.{indexes_of}
 use Rattle.store_core.proofs.DueLemmas.{due_record}
 use Rattle.task_claims.specs.Claims.{OthersClaim}
+use Rattle.task_claims.proofs.GoneLemmas.{gone_stays}
 use Rattle.task_claims.proofs.NameLemmas.{names_stay}
 use Rattle.purge_task.proofs.BareCallLemmas.{IsEmptiedFile, undoomed_in, unplaced_in, untaken_in}
 use Rattle.purge_task.proofs.SwitchFileLemmas.{IsOtherThere, IsWrittenFile, at_target, switched_at, switched_file, switched_doomed, switched_ends, switched_keeps_other, switched_other, switched_pins, written_undoomed, written_unemptied}
@@ -214,6 +215,7 @@ pub record IsSwitchMade {D : Type 0} (source : Source) (moved : List MapPlace) (
   pub kept : KeepsButTarget source.target before after
   pub firm : KeepsFirm old new before after
   pub room : old.map_log.room ≤ new.map_log.room
+  pub further : old.map_log.end < new.map_log.end
   pub boxes : new.map.boxes ≡ old.map.boxes
 
 stays : (n : ℕ) → n ≤ n
@@ -252,7 +254,9 @@ switch_leaves {D = D} mine source left moved dropped disk log dues old before af
   store = refl;
   numbers = none_placed old.instances;
   mailboxes = no_less old.map.highest.mailbox;
-  names = names_stay old.map new.map made.boxes;
+  end = let further = made.further in omega (arith, further);
+  names = inl (names_stay old.map new.map made.boxes);
+  gone = gone_stays old new made.boxes refl (no_less old.map.highest.mailbox);
   compared = keeps.compared;
   firm = made.firm;
   uids = λ number uid held k. record {

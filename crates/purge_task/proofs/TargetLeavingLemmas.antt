@@ -5,6 +5,7 @@ use Rattle.purge_task.proofs.Common.{Claims, HasRegionOctets, HaveSameInstances,
 use Rattle.disk_model.specs.declared.name.FileName.TheVariants as file
 use Rattle.store_core.specs.Keeping.{SyncsInstances}
 use Rattle.task_claims.specs.Leaving.{LeavesFile}
+use Rattle.task_claims.proofs.GoneLemmas.{gone_stays}
 use Rattle.purge_task.proofs.TargetSeenLemmas.{with_files}
 
 -- each other file is as it was, or its name was synced
@@ -85,7 +86,9 @@ files_leave mine n disk files old before after elsewhere untaken grows known end
       store = refl;
       numbers = none_placed old.instances;
       mailboxes = stays old.map.highest.mailbox;
-      names = λ name number is. is;
+      end = stays old.map_log.end;
+      names = inl (λ name number is. is);
+      gone = gone_stays old new refl refl (stays old.map.highest.mailbox);
       compared = keeps.compared;
       firm = firm;
       uids = λ number uid held k. record { given = k.given; below = k.below; same = k.same };

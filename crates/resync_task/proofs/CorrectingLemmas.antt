@@ -111,6 +111,7 @@ right_none store history faults runs none = record {
   runs = runs;
   many = ap (λ (cs : List MapCount). length cs) (sym none);
   map = ap (λ (cs : List MapCount). corrected_map cs store.map) (sym none);
+  end = omega arith;
   due = λ uid. refl;
   settled = λ lists s. s;
   mail = between-begins SameMail history (λ disk. ((λ number. refl), (λ hash id. refl)));

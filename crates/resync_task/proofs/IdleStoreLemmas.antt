@@ -14,6 +14,7 @@ use Rattle.store_seen.proofs.SeeingLemmas.{tells_as_before}
 use Rattle.task_claims.specs.Claims.{Due, Emptied, Held, Made, MovesClaims, Pinned, PlacingPieces, Removing, Taken, Thing, amount_in}
 use Rattle.task_claims.specs.Leaving.{IsSameOrSynced, LeavesOthers, SyncsMail}
 use Rattle.task_claims.proofs.CountedLemmas.{unraised_same}
+use Rattle.task_claims.proofs.GoneLemmas.{gone_stays}
 use Rattle.task_claims.proofs.RestLemmas.{rest_leaves, same_claims}
 use Rattle.resync_task.specs.Clause.{KeepsMessages}
 
@@ -61,7 +62,7 @@ reading_claims old new same = same_claims no_claims old new (λ thing. ap (λ (s
 pub reading_leaves : {D : Type 0} → (old new : StoreValue D) (before after : Option History) → ReadsStoreOnly old new before after → LeavesOthers no_claims old new before after
 reading_leaves old new before after only =
     subst (λ (s : StoreValue _). LeavesOthers no_claims old s before after) (sym only.same)
-    (rest_leaves no_claims old (record old { disk = new.disk }) before after refl refl (idle_syncs before after only.idle) refl (unraised_same old.map old.map refl) (omega arith) (λ name number is. is) (λ number uid held k. record { given = k.given; below = k.below; same = k.same }) (omega arith) (λ uid row none found listed. (listed, refl)))
+    (rest_leaves no_claims old (record old { disk = new.disk }) before after refl refl (idle_syncs before after only.idle) refl (unraised_same old.map old.map refl) (omega arith) (omega arith) (inl (λ name number is. is)) (gone_stays old (record old { disk = new.disk }) refl refl (omega arith)) (λ number uid held k. record { given = k.given; below = k.below; same = k.same }) (omega arith) (λ uid row none found listed. (listed, refl)))
 
 pub reading_rest : {D : Type 0} → (old new : StoreValue D) → new ≡ record old { disk = new.disk } → KeepsRest old new
 reading_rest old new same = same ∙ sym (ap (λ (v : StoreValue _). record old { disk = new.disk; map_log = v.map_log; map = v.map; boxes = v.boxes; drawn = v.drawn; dues = v.dues; stopped = v.stopped }) same)

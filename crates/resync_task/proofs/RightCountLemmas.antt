@@ -1,5 +1,5 @@
 -- The last event of a resync: what it leaves to the tasks beside it, and that the counts are exact then.
-use Rattle.resync_task.proofs.Common.{◌≡◌, ◌≤◌, ◌<◌, ◌+◌, ◌==◌, ℕ, false, List, [], ◌∷◌, Option, Some, map, refl, sym, ◌∙◌, ap, subst, arith, Contains, count_by, sum_by, eqb-true, All-contains, All-nil, All-cons, History, Faults, MapCount, Lists, BoxMeaning, LogRow, MapFits, MapMeaning, MapRecord}
+use Rattle.resync_task.proofs.Common.{◌≡◌, ◌≤◌, ◌<◌, ◌+◌, ◌==◌, ℕ, false, List, [], ◌∷◌, Option, Some, inl, map, refl, sym, ◌∙◌, ap, subst, arith, Contains, count_by, sum_by, eqb-true, All-contains, All-nil, All-cons, History, Faults, MapCount, Lists, BoxMeaning, LogRow, MapFits, MapMeaning, MapRecord}
 use Rattle.resync_task.proofs.Common.{count_given, records_by_counted, refs_in, listed_of, due_at, listed_at, IsStore, StoreValue, indexes_of, listed_meant, wrong_of, seen_of, no_claims, ShowsSeen, PutsRight, corrected_map, StaysSo}
 use Rattle.std.specs.Prelude.{max}
 use Rattle.std.specs.Option.{IfSome}
@@ -16,6 +16,7 @@ use Rattle.store_core.proofs.DueLemmas.{store_counts}
 use Rattle.store_seen.proofs.SeeingLemmas.{due_as_before, tells_as_before}
 use Rattle.task_claims.specs.Claims.{MovesClaims}
 use Rattle.task_claims.specs.Leaving.{LeavesOthers, RaisesNone, SameButCounts, but_count}
+use Rattle.task_claims.proofs.GoneLemmas.{gone_stays}
 use Rattle.task_claims.proofs.NameLemmas.{names_stay}
 use Rattle.task_claims.proofs.RestLemmas.{mail_same, rest_amounts, rest_leaves, same_claims}
 use Rattle.task_steps.specs.Tells.{TellsSame}
@@ -86,7 +87,7 @@ right_leaves history corrected old new before after began now s p =
     let highest : old.map.highest.mailbox ≤ new.map.highest.mailbox = subst (λ (m : MapMeaning). old.map.highest.mailbox ≤ m.highest.mailbox) (sym p.map) (corrected_highest (wrong_of old) old.map) in
     rest_leaves no_claims old new before after (ap (λ (v : StoreValue _). v.files) p.keeps.rest) (ap (λ (v : StoreValue _). v.instances) p.keeps.rest) (mail_same before after p.mail)
     (subst (λ (m : MapMeaning). SameButCounts old.map m) (sym p.map) (corrected_same (wrong_of old) old.map)) (right_unraised history corrected old new before after began now s p)
-    highest (names_stay old.map new.map p.keeps.mailboxes) (lists_stay old new highest p.keeps.mailboxes p.keeps.indexes) p.keeps.room
+    highest p.end (inl (names_stay old.map new.map p.keeps.mailboxes)) (gone_stays old new p.keeps.mailboxes (ap (λ (v : StoreValue _). v.made) p.keeps.rest) highest) (lists_stay old new highest p.keeps.mailboxes p.keeps.indexes) p.keeps.room
     (λ uid row none found listed. (ap (λ (ms : List BoxMeaning). refs_in ms row.guid) p.keeps.indexes ∙ listed, p.due uid))
 
 pub right_claims : {D : Type 0} → (corrected : ℕ) (old new : StoreValue D) (before after : Option History) (began now : Faults) → PutsRight corrected old new before after began now → MovesClaims no_claims no_claims old new

@@ -32,12 +32,14 @@ pub record KeepsCorrecting {D : Type 0} (old new : StoreValue D) (before after :
   pub reads : now.reads ≡ began.reads
   pub changes : began.changes ≤ now.changes
 
--- The wrong counts were put right, so many of them. What is due stays, and so does all of each record but its count.
+-- The wrong counts were put right, so many of them. What is due stays, and so does all of each record but its count. The map log is
+-- no shorter.
 pub record PutsRight {D : Type 0} (corrected : ℕ) (old new : StoreValue D) (before after : Option History) (began now : Faults) : Type 0 where
   pub keeps : KeepsCorrecting old new before after began now
   pub runs : new.stopped ≡ false
   pub many : corrected ≡ length (wrong_of old)
   pub map : new.map ≡ corrected_map (wrong_of old) old.map
+  pub end : old.map_log.end ≤ new.map_log.end
   pub due : (uid : ℕ) → due_at uid new ≡ due_at uid old
   pub settled : (lists : Lists) → IsSettledFor lists before → IsSettledFor lists after
   pub mail : KeepsMail before after

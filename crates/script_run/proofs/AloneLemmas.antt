@@ -16,8 +16,8 @@ use Rattle.mdbox_base.specs.declared.requests.Request.TheVariants as request
 use Rattle.mdbox_base.specs.declared.script.JournalEntry.{JournalEntry}
 use Rattle.model_lists.specs.Lists.{Lists}
 use Rattle.list_machine.specs.Machine.{Answers, is_step}
-use Rattle.list_machine.specs.Run.{EventPart, First, GivesBack, Last, SecondHalf, Run, RunEvent, before, own_events, first_in, reply_of, StartsOver}
-use Rattle.journal.specs.Events.{Around, IsEvent, MayMeet, behind_addition, behind_copy, behind_event, behind_expunge, behind_make, behind_move, ends_with_count, is_elsewhere, is_fault, is_faulted, is_overtaken, next_part, reads_octets}
+use Rattle.list_machine.specs.Run.{EventPart, First, GivesBack, Last, RemovesLog, SecondHalf, Run, RunEvent, before, own_events, first_in, reply_of, StartsOver}
+use Rattle.journal.specs.Events.{Around, IsEvent, MayMeet, behind_addition, behind_copy, behind_delete, behind_event, behind_expunge, behind_make, behind_move, ends_with_count, is_elsewhere, is_fault, is_faulted, is_overtaken, next_part, reads_octets}
 use Rattle.journal.specs.GoesOn.{IsOneStep}
 use Rattle.journal.specs.Journal.{Requests, AreSteps, Broken, IsReplyOf, JournalStep, Reached, as_if, is_read_fault, left_by}
 use Rattle.journal.specs.Makes.{AreNextEvents, lists_before}
@@ -95,6 +95,10 @@ calm_expunge : (part next : EventPart) → behind_expunge part ≡ Some next →
 calm_expunge First next is asked calm = let k : Some GivesBack ≡ Some next = is in let z : GivesBack ≡ next = cc k in ap (λ (p : EventPart). reads_octets p asked) (sym z) ∙ calm
 calm_expunge part next is asked calm = absurd (let k : None ≡ Some next = is in cc k)
 
+calm_delete : (part next : EventPart) → behind_delete part ≡ Some next → (name : List ℕ) → reads_octets next (request.Delete name) ≡ false
+calm_delete First next is name = let k : Some RemovesLog ≡ Some next = is in let z : RemovesLog ≡ next = cc k in ap (λ (p : EventPart). reads_octets p (request.Delete name)) (sym z)
+calm_delete part next is name = absurd (let k : None ≡ Some next = is in cc k)
+
 calm_copy : (elsewhere ends : Bool) (part next : EventPart) → behind_copy elsewhere ends part ≡ Some next → (asked : Request) → reads_octets First asked ≡ false → reads_octets Last asked ≡ false → reads_octets StartsOver asked ≡ false → reads_octets GivesBack asked ≡ false → reads_octets next asked ≡ false
 calm_copy true ends First next is asked first last over back = let k : Some StartsOver ≡ Some next = is in let z : StartsOver ≡ next = cc k in ap (λ (p : EventPart). reads_octets p asked) (sym z) ∙ over
 calm_copy false ends First next is asked first last over back = let k : Some Last ≡ Some next = is in let z : Last ≡ next = cc k in ap (λ (p : EventPart). reads_octets p asked) (sym z) ∙ last
@@ -134,6 +138,10 @@ calm_behind (request.Copy name uid target) one around run event None part is = c
 calm_behind (request.Copy name uid target) one around run event (Some why) part is = calm_addition event.part why part is (request.Copy name uid target) refl
 calm_behind (request.Move name uid target) one around run event None part is = calm_move (is_elsewhere run event.request name) (ends_with_count run event.request) event event.part part is (request.Move name uid target) refl refl refl refl refl
 calm_behind (request.Move name uid target) one around run event (Some why) part is = calm_addition event.part why part is (request.Move name uid target) refl
+calm_behind (request.Delete name) one around run event None part is = calm_delete event.part part is name
+calm_behind (request.Delete name) one around run event (Some why) part is = absurd (let k : None ≡ Some part = is in cc k)
+calm_behind (request.Rename name target) one around run event None part is = absurd (let k : None ≡ Some part = is in cc k)
+calm_behind (request.Rename name target) one around run event (Some why) part is = absurd (let k : None ≡ Some part = is in cc k)
 calm_behind (request.List name) one around run event why part is = absurd (none_behind (request.List name) one around run event why part is)
 calm_behind (request.Flag name uid flags) one around run event why part is = absurd (none_behind (request.Flag name uid flags) one around run event why part is)
 calm_behind request.Counts one around run event why part is = absurd (none_behind request.Counts one around run event why part is)

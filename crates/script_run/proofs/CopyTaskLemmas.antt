@@ -1,6 +1,7 @@
 -- A copy alone, and what a move begins with: why it isn't made, and what its task knows from one event to the next.
-use Rattle.std.specs.Prelude.{◌≡◌, ◌⊎◌, ◌∷◌, ◌+◌, ◌-◌, ◌==◌, ℕ, nat_le, Bool, true, false, List, [], map, is_some, if◌then◌else◌, Option, Some, None}
-use Rattle.std.specs.Option.{option_map_or, option_or}
+use Rattle.std.specs.Prelude.{◌≡◌, ◌⊎◌, ◌∷◌, ◌+◌, ◌-◌, ◌==◌, ℕ, nat_le, Bool, true, false, List, [], find, map, is_some, if◌then◌else◌, Option, Some, None}
+use Rattle.std.specs.Option.{option_map, option_map_or, option_or}
+use Rattle.std.specs.Str.{bytes_eq}
 use Rattle.std.proofs.Common.{refl, sym, ◌∙◌, ap, subst, inl, inr, arith}
 use Rattle.disk_model.specs.Disk.{History, IsIdle}
 use Rattle.mdbox_base.specs.declared.ids.MapUid.{MapUid}
@@ -20,9 +21,10 @@ use Rattle.journal.specs.Journal.{is_read_fault}
 use Rattle.task_steps.specs.Step.{ended_by}
 use Rattle.task_steps.proofs.OneEventLemmas.{not_true}
 use Rattle.store_core.specs.Value.{StoreValue, indexes_of, list_named}
+use Rattle.task_claims.specs.Leaving.{number_named}
 use Rattle.mail_ops.specs.Appends.{TakesIntoMap, lowering_of}
 use Rattle.mail_ops.specs.Copy.{CopyAnswers}
-use Rattle.mail_ops.specs.Copying.{CopyPlace, copy_refusal, room_refusal, raising_of, IsRaiseRefusal, MayBeRaised}
+use Rattle.mail_ops.specs.Copying.{CopyPlace, copy_refusal, room_refusal, raising_of, IsNamedElsewhere, IsRaiseRefusal, MayBeRaised}
 use Rattle.mail_ops.specs.Requests.{IsOpsRequest}
 use Rattle.mail_ops.specs.declared.copy.CopyStage.{CopyStage}
 use Rattle.mail_ops.specs.declared.copy.CopyStage.TheVariants as copy_stage
@@ -147,6 +149,17 @@ pub record HoldsRaised {D : Type 0} (name : List ℕ) (uid : ℕ) (target : List
 pub named_kept : {D : Type 0} → (name : List ℕ) (entry : MapEntry) (first s : StoreValue D) → TakesIntoMap entry first s → list_named s name ≡ list_named first name
 named_kept name entry first s took = ap (λ (bs : List MapBox). meaning_named name bs (indexes_of s.boxes)) took.mailboxes ∙ ap (meaning_named name first.map.boxes) took.indexes
 
+-- the count of a message was raised, of the mailbox with this number, which has the name
+abbrev pub HoldsFrom : {D : Type 0} → List ℕ → ℕ → List ℕ → MapUid → ℕ → StoreValue D → StoreValue D → Type 0
+HoldsFrom name uid target held source first s = HoldsRaised name uid target held first s × (number_named first.map name ≡ Some source)
+
+-- no other mailbox gets the name
+pub still_named : {D : Type 0} → (name : List ℕ) (uid : ℕ) (target : List ℕ) (held : MapUid) (source : ℕ) (first s : StoreValue D) → HoldsFrom name uid target held source first s → IsNamedElsewhere name uid target source s → ⊥
+still_named name uid target held source first s k elsewhere =
+    let stays : number_named s.map name ≡ number_named first.map name = ap (λ (boxes : List MapBox). option_map (λ (box : MapBox). box.number) (find (λ (box : MapBox). bytes_eq box.name name) boxes)) k.0.raised.mailboxes in
+    let e : Some elsewhere.other ≡ Some source = sym elsewhere.named ∙ (stays ∙ k.1) in
+    elsewhere.differs (cc e)
+
 -- so the second event finds the same place
 still_free : {D : Type 0} → (name : List ℕ) (uid : ℕ) (target : List ℕ) (held : MapUid) (first s : StoreValue D) → HoldsRaised name uid target held first s → copy_refusal name uid target s ≡ None
 still_free name uid target held first s k =
@@ -158,8 +171,11 @@ pub only_memory : {D : Type 0} → (name : List ℕ) (uid : ℕ) (target : List 
 only_memory name uid target held first s why k (inl e) = absurd (let z : None ≡ Some why = sym (still_free name uid target held first s k) ∙ e in cc z)
 only_memory name uid target held first s why k (inr e) = e
 
-pub raised_first : {D : Type 0} → (name : List ℕ) (uid : ℕ) (target : List ℕ) (held : MapUid) (first s t : StoreValue D) → s ≡ first → MayBeRaised name uid target s → TakesIntoMap (raising_of held) s t → HoldsRaised name uid target held first t
-raised_first name uid target held first s t same may took = record { may = subst (λ (v : StoreValue _). MayBeRaised name uid target v) same may; raised = subst (λ (v : StoreValue _). TakesIntoMap (raising_of held) v t) same took }
+pub raised_first : {D : Type 0} → (name : List ℕ) (uid : ℕ) (target : List ℕ) (held : MapUid) (source : ℕ) (first s t : StoreValue D) → s ≡ first → (may : MayBeRaised name uid target s) → TakesIntoMap (raising_of held) s t → may.at.source ≡ source → HoldsFrom name uid target held source first t
+raised_first name uid target held source first s t same may took is = (
+  record { may = subst (λ (v : StoreValue _). MayBeRaised name uid target v) same may; raised = subst (λ (v : StoreValue _). TakesIntoMap (raising_of held) v t) same took },
+  subst (λ (v : StoreValue _). number_named v.map name ≡ Some source) same (may.at.from.box.number_is ∙ ap Some is),
+)
 
 -- ---- a copy, event after event
 
@@ -169,7 +185,8 @@ still_alike s t e = subst (λ (v : StoreValue _). IsAlikeStore s v) (sym e) (rec
 
 abbrev AtCopy : {D : Type 0} → List ℕ → Uid → List ℕ → StoreValue D → Option History → CopyStage → StoreValue D → Option History → Type 0
 AtCopy name uid target s mid copy_stage.First store history = (store ≡ s) × (history ≡ mid)
-AtCopy name uid target s mid (copy_stage.Adding held source) store history = HoldsRaised name uid.0 target held s store
+AtCopy name uid target s mid (copy_stage.Adding held source) store history = HoldsFrom name uid.0 target held source.0 s store
+AtCopy name uid target s mid (copy_stage.BeginningAgain held) store history = ⊥
 AtCopy name uid target s mid (copy_stage.GivingBack held why) store history = HoldsRaised name uid.0 target held s store × (why ≡ refusal.NoMemory)
 
 abbrev pub StandsCopy : {D : Type 0} → List ℕ → Uid → List ℕ → StoreValue D → Option History → Task → StoreValue D → Option History → Type 0
@@ -235,20 +252,22 @@ IsCopyTold name uid target s mid = IsRaiseTold (AnswerIn name uid.0 target s) s 
 copy_at : {D : Type 0} → (name : List ℕ) (uid : Uid) (target : List ℕ) (s : StoreValue D) (mid : Option History) (now next : CopyStage) (old new : StoreValue D) (before after : Option History) (ended : Option Reply) → AtCopy name uid target s mid now old before → CopyAnswers name uid target now old new next (progress_by ended) → (new ≡ old → IsIdle before after)
     → GoesOrEnds (AtCopy name uid target s mid next new after) (AnswerIn name uid.0 target s) s mid new after ended
 copy_at name uid target s mid copy_stage.First (copy_stage.Adding held source) old new before after None at a same =
-    goes_raise _ (AnswerIn name uid.0 target s) s mid new after (raised_first name uid.0 target held s old new at.0 (record { row = a.0; number = a.1; next = a.2; at = a.3; few = a.5 }) a.6)
+    goes_raise _ (AnswerIn name uid.0 target s) s mid new after (raised_first name uid.0 target held source.0 s old new at.0 (record { row = a.0; number = a.1; next = a.2; at = a.3; few = a.5 }) a.6 a.7)
 copy_at name uid target s mid copy_stage.First copy_stage.First old new before after (Some (reply.Refused why)) at a same =
     ends_raise _ (AnswerIn name uid.0 target s) s mid new after (reply.Refused why)
     (first_raise (AnswerIn name uid.0 target s) name uid target s mid why new before after (raise_answers name uid.0 target s why) (λ may is. may_answers name uid.0 target s (reply.Refused why) may (inr is)) at.1 (λ back. same (back ∙ sym at.0))
     (subst (λ (v : StoreValue _). CopyAnswers name uid target copy_stage.First v new copy_stage.First (progress_by (Some (reply.Refused why)))) at.0 a))
 copy_at name uid target s mid (copy_stage.Adding held source) copy_stage.First old new before after (Some (reply.Copied given)) at a same =
     ends_raise _ (AnswerIn name uid.0 target s) s mid new after (reply.Copied given)
-    (done_raise (AnswerIn name uid.0 target s) s mid (reply.Copied given) new after (may_answers name uid.0 target s (reply.Copied given) at.may (inl (a.2.m, given, sym (named_kept target (raising_of held) s old at.raised) ∙ a.2.to.named, a.2.next_is, refl)))
+    (done_raise (AnswerIn name uid.0 target s) s mid (reply.Copied given) new after (may_answers name uid.0 target s (reply.Copied given) at.0.may (inl (a.2.m, given, sym (named_kept target (raising_of held) s old at.0.raised) ∙ a.2.to.named, a.2.next_is, refl)))
     (λ why e. let k : reply.Copied given ≡ reply.Refused why = e in cc k))
 copy_at name uid target s mid (copy_stage.Adding held source) (copy_stage.Adding still from) old new before after (Some (reply.Refused why)) at a same =
-    ends_raise _ (AnswerIn name uid.0 target s) s mid new after (reply.Refused why) (stopped_raise (AnswerIn name uid.0 target s) s mid why new after (λ e. may_answers name uid.0 target s (reply.Refused why) at.may (inr (inr e))) a.1)
+    ends_raise _ (AnswerIn name uid.0 target s) s mid new after (reply.Refused why) (stopped_raise (AnswerIn name uid.0 target s) s mid why new after (λ e. may_answers name uid.0 target s (reply.Refused why) at.0.may (inr (inr e))) a.1)
 copy_at name uid target s mid (copy_stage.Adding held source) (copy_stage.GivingBack still why) old new before after None at a same =
     goes_raise _ (AnswerIn name uid.0 target s) s mid new after
-    (subst (λ (v : StoreValue _). HoldsRaised name uid.0 target still s v) (sym a.1) (subst (λ (h : MapUid). HoldsRaised name uid.0 target h s old) (sym a.0) at), only_memory name uid.0 target held s old why at a.2)
+    (subst (λ (v : StoreValue _). HoldsRaised name uid.0 target still s v) (sym a.1) (subst (λ (h : MapUid). HoldsRaised name uid.0 target h s old) (sym a.0) at.0), only_memory name uid.0 target held s old why at.0 a.2)
+copy_at name uid target s mid (copy_stage.Adding held source) (copy_stage.BeginningAgain still) old new before after None at a same = absurd (still_named name uid.0 target held source.0 s old at a.2)
+copy_at name uid target s mid (copy_stage.BeginningAgain held) next old new before after ended at a same = absurd at
 copy_at name uid target s mid (copy_stage.GivingBack held why) copy_stage.First old new before after (Some (reply.Refused given)) at a same =
     ends_raise _ (AnswerIn name uid.0 target s) s mid new after (reply.Refused given)
     (short_raise (AnswerIn name uid.0 target s) s mid given new after (λ e. may_answers name uid.0 target s (reply.Refused given) at.0.may (inr (inl e))) (a.0 ∙ at.1) (given_back held s old new at.0.raised a.1))
@@ -286,5 +305,7 @@ begun_copy name uid target s mid running (task.Expunge t) b = absurd (cc b.is_of
 begun_copy name uid target s mid running (task.Move t) b = absurd (cc b.is_of)
 begun_copy name uid target s mid running (task.Fetch t) b = absurd (cc b.is_of)
 begun_copy name uid target s mid running (task.Purge t) b = absurd (cc b.is_of)
+begun_copy name uid target s mid running (task.Delete t) b = absurd (cc b.is_of)
+begun_copy name uid target s mid running (task.Rename t) b = absurd (cc b.is_of)
 begun_copy name uid target s mid running (task.Deliver t) b = absurd b.is_of
 begun_copy name uid target s mid running (task.Resync t) b = absurd (cc b.is_of)

@@ -41,6 +41,7 @@ use Rattle.lanes.proofs.TraceLemmas.{as_finished, world_finished}
 use Rattle.lane_tasks.specs.Clause.{AnswersReads, DoomsNone, OnlyReads, ReadsNoOctets}
 use Rattle.task_steps.proofs.UnmovedLemmas.{mail_still}
 use Rattle.lane_tasks.specs.Tasks.{BeginsTask}
+use Rattle.mail_ops.specs.Changing.{deleting_refusal, renaming_refusal}
 use Rattle.mail_ops.specs.Flagging.{flag_refusal}
 use Rattle.mail_ops.specs.Requests.{Replies}
 use Rattle.lane_tasks.specs.declared.task.Task.{Task}
@@ -52,6 +53,7 @@ use Rattle.script_run.specs.Opening.{AreSafeFor, LogsShowLists}
 use Rattle.script_run.specs.Script.{HasStopped, IsRefusedAtOnce, ServesScript, has_change, has_delivery, has_fetch, has_mail_read, has_purge, is_fetch, is_purge}
 use Rattle.script_run.proofs.EndLemmas.{all_given, script_served, serves_from, unharmed}
 use Rattle.script_run.proofs.MailStaysLemmas.{opening_keeps, run_keeps, stays_from}
+use Rattle.script_run.proofs.ChangeTaskLemmas.{StandsDelete, StandsRename, begun_delete, begun_rename, keeps_delete, keeps_rename}
 use Rattle.script_run.proofs.CopyTaskLemmas.{IsCopyTold, StandsCopy, begun_copy, keeps_copy}
 use Rattle.script_run.proofs.ChainLemmas.{HasCounted, HasDoomedNone, HasOnlyRead, HasReadAsTold, HasReadNoOctets, HasWrittenNone, WritesNoMail, calm_on, counted_first, counted_on, reads_on, stays_over, syncs_first, unread_on, unwritten_on}
 use Rattle.script_run.proofs.SinceLemmas.{MayBeRefused, ServedSince, answers_first, begun_first, changes_none, dooms_first, fresh_tasks, reads_first, reads_unpurged, served_since, unpurged, unread_first, unwritten_first}
@@ -61,7 +63,7 @@ use Rattle.script_run.specs.Sealed.{KeepsSealed}
 use Rattle.script_run.proofs.MakeTaskLemmas.{IsMakeTold, StandsMake, begun_make, keeps_make, making_cause, unmade_alike}
 use Rattle.script_run.proofs.MoveTaskLemmas.{IsMoveTold, StandsMove, begun_move, keeps_move}
 use Rattle.script_run.proofs.MovedLemmas.{all_at, none_moved}
-use Rattle.script_run.proofs.OneTaskLemmas.{IsAloneSo, IsExpungeTold, IsFlagTold, KeepsAlone, StandsExpunge, StandsFlag, alone_fresh, alone_on, begun_expunge, keeps_expunge, keeps_flag}
+use Rattle.script_run.proofs.OneTaskLemmas.{IsAloneSo, IsChangeTold, IsFlagTold, KeepsAlone, StandsExpunge, StandsFlag, alone_fresh, alone_on, begun_expunge, keeps_expunge, keeps_flag}
 use Rattle.script_run.proofs.OpenedLemmas.{none_doomed, none_holds, none_used}
 use Rattle.script_run.proofs.ReadFaultLemmas.{TellsFault, faults_are_told}
 use Rattle.script_run.proofs.PurgeTaskLemmas.{IsPurgeTold, StandsPurge, begun_purge, keeps_purge}
@@ -463,9 +465,19 @@ flag_told at name uid flags one old mid new first last s world ended r are =
     flag_answer name uid flags s ended.store one r.opened.running told
 
 expunge_told : {D : Type 0} → (at : ℕ) (name : List ℕ) (uid : Uid) (one : Reply) (old mid new : Option History) (first last : Faults) (s : StoreValue D) (world ended : WorldValue D) → ScriptRan ((at, request.Expunge name uid) ∷ []) old mid new first last s world ended → ended.replies ≡ Some one ∷ []
-    → IsExpungeTold (missing_cause (list_named s name) uid.0) mid one new
+    → IsChangeTold (missing_cause (list_named s name) uid.0) mid one new
 expunge_told at name uid one old mid new first last s world ended r are =
-    alone_told (StandsExpunge name uid s mid) (λ given store history. IsExpungeTold (missing_cause (list_named s name) uid.0) mid given history) at (request.Expunge name uid) one old mid new first last s world ended r are refl (keeps_expunge name uid s mid) (begun_expunge name uid s mid r.opened.running)
+    alone_told (StandsExpunge name uid s mid) (λ given store history. IsChangeTold (missing_cause (list_named s name) uid.0) mid given history) at (request.Expunge name uid) one old mid new first last s world ended r are refl (keeps_expunge name uid s mid) (begun_expunge name uid s mid r.opened.running)
+
+delete_told : {D : Type 0} → (at : ℕ) (name : List ℕ) (one : Reply) (old mid new : Option History) (first last : Faults) (s : StoreValue D) (world ended : WorldValue D) → ScriptRan ((at, request.Delete name) ∷ []) old mid new first last s world ended → ended.replies ≡ Some one ∷ []
+    → IsChangeTold (deleting_refusal name s) mid one new
+delete_told at name one old mid new first last s world ended r are =
+    alone_told (StandsDelete name s mid) (λ given store history. IsChangeTold (deleting_refusal name s) mid given history) at (request.Delete name) one old mid new first last s world ended r are refl (keeps_delete name s mid) (begun_delete name s mid r.opened.running)
+
+rename_told : {D : Type 0} → (at : ℕ) (name target : List ℕ) (one : Reply) (old mid new : Option History) (first last : Faults) (s : StoreValue D) (world ended : WorldValue D) → ScriptRan ((at, request.Rename name target) ∷ []) old mid new first last s world ended → ended.replies ≡ Some one ∷ []
+    → IsChangeTold (renaming_refusal name target s) mid one new
+rename_told at name target one old mid new first last s world ended r are =
+    alone_told (StandsRename name target s mid) (λ given store history. IsChangeTold (renaming_refusal name target s) mid given history) at (request.Rename name target) one old mid new first last s world ended r are refl (keeps_rename name target s mid) (begun_rename name target s mid r.opened.running)
 
 copy_told : {D : Type 0} → (at : ℕ) (name : List ℕ) (uid : Uid) (target : List ℕ) (one : Reply) (old mid new : Option History) (first last : Faults) (s : StoreValue D) (world ended : WorldValue D) → ScriptRan ((at, request.Copy name uid target) ∷ []) old mid new first last s world ended → ended.replies ≡ Some one ∷ []
     → IsCopyTold name uid target s mid one ended.store new
@@ -494,6 +506,8 @@ purge_told at one old mid new first last s world ended r are =
 told_alone : {D : Type 0} → (script : Requests) (old mid new : Option History) (first last : Faults) (s : StoreValue D) (world ended : WorldValue D) → ScriptRan script old mid new first last s world ended → (given : List Reply) → ended.replies ≡ map Some given → IsToldAlone script s.map (indexes_of s.boxes) given
 told_alone ((at, request.Flag name uid flags) ∷ []) old mid new first last s world ended r (one ∷ []) are = flag_told at name uid flags one old mid new first last s world ended r are
 told_alone ((at, request.Make name) ∷ []) old mid new first last s world ended r (one ∷ []) are = making_cause name s one r.opened.drawn (make_told at name one old mid new first last s world ended r are).given_is
+told_alone ((at, request.Delete name) ∷ []) old mid new first last s world ended r (one ∷ []) are = (delete_told at name one old mid new first last s world ended r are).given_is
+told_alone ((at, request.Rename name target) ∷ []) old mid new first last s world ended r (one ∷ []) are = (rename_told at name target one old mid new first last s world ended r are).given_is
 told_alone ((at, request.Expunge name uid) ∷ []) old mid new first last s world ended r (one ∷ []) are = (expunge_told at name uid one old mid new first last s world ended r are).given_is
 told_alone ((at, request.Copy name uid target) ∷ []) old mid new first last s world ended r (one ∷ []) are = (copy_told at name uid target one old mid new first last s world ended r are).given_is
 told_alone ((at, request.Move name uid target) ∷ []) old mid new first last s world ended r (one ∷ []) are = (move_told at name uid target one old mid new first last s world ended r are).given_is
@@ -501,6 +515,8 @@ told_alone script old mid new first last s world ended r given are = tt
 
 undone_alone : {D : Type 0} → (script : Requests) (old mid new : Option History) (first last : Faults) (s : StoreValue D) (world ended : WorldValue D) → ScriptRan script old mid new first last s world ended → (given : List Reply) → ended.replies ≡ map Some given → IsUndoneAlone script given → IsIdle mid new
 undone_alone ((at, request.Make name) ∷ []) old mid new first last s world ended r (reply.Refused why ∷ []) are runs = (make_told at name (reply.Refused why) old mid new first last s world ended r are).unchanged why refl runs.0 runs.1
+undone_alone ((at, request.Delete name) ∷ []) old mid new first last s world ended r (reply.Refused why ∷ []) are running = (delete_told at name (reply.Refused why) old mid new first last s world ended r are).unchanged why refl running
+undone_alone ((at, request.Rename name target) ∷ []) old mid new first last s world ended r (reply.Refused why ∷ []) are running = (rename_told at name target (reply.Refused why) old mid new first last s world ended r are).unchanged why refl running
 undone_alone ((at, request.Expunge name uid) ∷ []) old mid new first last s world ended r (reply.Refused why ∷ []) are running = (expunge_told at name uid (reply.Refused why) old mid new first last s world ended r are).unchanged why refl running
 undone_alone ((at, request.Copy name uid target) ∷ []) old mid new first last s world ended r (reply.Refused why ∷ []) are runs = (copy_told at name uid target (reply.Refused why) old mid new first last s world ended r are).unchanged why refl runs.0 runs.1
 undone_alone ((at, request.Move name uid target) ∷ []) old mid new first last s world ended r (reply.Refused why ∷ []) are runs = (move_told at name uid target (reply.Refused why) old mid new first last s world ended r are).unchanged why refl runs.0 runs.1

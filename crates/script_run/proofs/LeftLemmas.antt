@@ -14,7 +14,7 @@ use Rattle.model_meaning.specs.BoxMeaning.{BoxMeaning}
 use Rattle.model_meaning.specs.MapMeaning.{MapMeaning}
 use Rattle.model_store.specs.Settled.{IsSettledFor}
 use Rattle.list_machine.specs.Run.{Run}
-use Rattle.journal.specs.Journal.{AreSteps, Broken, IsReplyOf, JournalStep, left_by}
+use Rattle.journal.specs.Journal.{Broken, IsReplyOf, JournalStep, left_by}
 use Rattle.journal.specs.Makes.{IsServed}
 use Rattle.script_run.specs.One.{AreListsTold, IsUnfailed, ServesRequest, alone}
 use Rattle.script_run.specs.Opening.{LogsShowLists}

@@ -1,5 +1,6 @@
 pub mod AloneLemmas
 pub mod ChainLemmas
+pub mod ChangeTaskLemmas
 pub mod CopyRunLemmas
 pub mod CopyTaskLemmas
 pub mod DoneLemmas

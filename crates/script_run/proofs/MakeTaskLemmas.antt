@@ -237,6 +237,8 @@ begun_make name s mid running (task.Move t) b = absurd (cc b.is_of)
 begun_make name s mid running (task.Expunge t) b = absurd (cc b.is_of)
 begun_make name s mid running (task.Fetch t) b = absurd (cc b.is_of)
 begun_make name s mid running (task.Purge t) b = absurd (cc b.is_of)
+begun_make name s mid running (task.Delete t) b = absurd (cc b.is_of)
+begun_make name s mid running (task.Rename t) b = absurd (cc b.is_of)
 begun_make name s mid running (task.Deliver t) b = absurd b.is_of
 begun_make name s mid running (task.Resync t) b = absurd (cc b.is_of)
 

@@ -24,7 +24,7 @@ use Rattle.lane_tasks.specs.declared.task.Task.{Task}
 use Rattle.lane_tasks.specs.declared.task.Task.TheVariants as task
 use Rattle.lane_tasks.proofs.StepLemmas.{ops_asked}
 use Rattle.script_run.specs.One.{IsMoveAnswer, IsMovedAs}
-use Rattle.script_run.proofs.CopyTaskLemmas.{CauseIn, GoesOrEnds, HoldsRaised, IsRaiseTold, done_raise, ends_raise, first_raise, given_back, goes_raise, may_cause, named_kept, only_memory, raise_cause, raised_first, short_raise, stopped_raise}
+use Rattle.script_run.proofs.CopyTaskLemmas.{CauseIn, GoesOrEnds, HoldsFrom, HoldsRaised, IsRaiseTold, done_raise, ends_raise, first_raise, given_back, goes_raise, may_cause, named_kept, only_memory, raise_cause, raised_first, short_raise, still_named, stopped_raise}
 use Rattle.script_run.proofs.OneTaskLemmas.{KeepsAlone}
 
 -- ---- its replies
@@ -52,7 +52,8 @@ was_next name uid target held copied row number s old k at = record { may = k.ma
 
 abbrev AtMove : {D : Type 0} → List ℕ → Uid → List ℕ → StoreValue D → Option History → MoveStage → StoreValue D → Option History → Type 0
 AtMove name uid target s mid move_stage.First store history = (store ≡ s) × (history ≡ mid)
-AtMove name uid target s mid (move_stage.Adding held source) store history = HoldsRaised name uid.0 target held s store
+AtMove name uid target s mid (move_stage.Adding held source) store history = HoldsFrom name uid.0 target held source.0 s store
+AtMove name uid target s mid (move_stage.BeginningAgain held) store history = ⊥
 AtMove name uid target s mid (move_stage.GivingBack held why) store history = HoldsRaised name uid.0 target held s store × (why ≡ refusal.NoMemory)
 AtMove name uid target s mid (move_stage.Removing held copied source) store history = WasNext name uid.0 target copied s
 AtMove name uid target s mid (move_stage.Owing owed copied) store history = WasNext name uid.0 target copied s
@@ -78,18 +79,20 @@ stopped_move name uid target s mid why store history may is = stopped_raise (Mov
 move_at : {D : Type 0} → (name : List ℕ) (uid : Uid) (target : List ℕ) (s : StoreValue D) (mid : Option History) (now next : MoveStage) (old new : StoreValue D) (before after : Option History) (ended : Option Reply) → AtMove name uid target s mid now old before → MoveAnswers name uid target now old new next (progress_by ended) → (new ≡ old → IsIdle before after)
     → GoesOrEnds (AtMove name uid target s mid next new after) (MovesIn name uid.0 target s) s mid new after ended
 move_at name uid target s mid move_stage.First (move_stage.Adding held source) old new before after None at a same =
-    goes_raise _ (MovesIn name uid.0 target s) s mid new after (raised_first name uid.0 target held s old new at.0 (record { row = a.0; number = a.1; next = a.2; at = a.3; few = a.5 }) a.6)
+    goes_raise _ (MovesIn name uid.0 target s) s mid new after (raised_first name uid.0 target held source.0 s old new at.0 (record { row = a.0; number = a.1; next = a.2; at = a.3; few = a.5 }) a.6 a.7)
 move_at name uid target s mid move_stage.First move_stage.First old new before after (Some (reply.Refused why)) at a same =
     ends_raise _ (MovesIn name uid.0 target s) s mid new after (reply.Refused why)
     (first_raise (MovesIn name uid.0 target s) name uid target s mid why new before after (raise_moves name uid.0 target s why) (λ may is. may_move name uid.0 target s (reply.Refused why) may (inr is)) at.1 (λ back. same (back ∙ sym at.0))
     (subst (λ (v : StoreValue _). MoveAnswers name uid target move_stage.First v new move_stage.First (progress_by (Some (reply.Refused why)))) at.0 a))
 move_at name uid target s mid (move_stage.Adding held source) (move_stage.Removing still copied from) old new before after None at a same =
-    goes_raise _ (MovesIn name uid.0 target s) s mid new after (was_next name uid.0 target held copied a.1.0 a.1.1 s old at a.1.2)
+    goes_raise _ (MovesIn name uid.0 target s) s mid new after (was_next name uid.0 target held copied a.1.0 a.1.1 s old at.0 a.1.2)
 move_at name uid target s mid (move_stage.Adding held source) (move_stage.Adding still from) old new before after (Some (reply.Refused why)) at a same =
-    ends_raise _ (MovesIn name uid.0 target s) s mid new after (reply.Refused why) (stopped_move name uid target s mid why new after at.may a.1)
+    ends_raise _ (MovesIn name uid.0 target s) s mid new after (reply.Refused why) (stopped_move name uid target s mid why new after at.0.may a.1)
 move_at name uid target s mid (move_stage.Adding held source) (move_stage.GivingBack still why) old new before after None at a same =
     goes_raise _ (MovesIn name uid.0 target s) s mid new after
-    (subst (λ (v : StoreValue _). HoldsRaised name uid.0 target still s v) (sym a.1) (subst (λ (h : MapUid). HoldsRaised name uid.0 target h s old) (sym a.0) at), only_memory name uid.0 target held s old why at a.2)
+    (subst (λ (v : StoreValue _). HoldsRaised name uid.0 target still s v) (sym a.1) (subst (λ (h : MapUid). HoldsRaised name uid.0 target h s old) (sym a.0) at.0), only_memory name uid.0 target held s old why at.0 a.2)
+move_at name uid target s mid (move_stage.Adding held source) (move_stage.BeginningAgain still) old new before after None at a same = absurd (still_named name uid.0 target held source.0 s old at a.2)
+move_at name uid target s mid (move_stage.BeginningAgain held) next old new before after ended at a same = absurd at
 move_at name uid target s mid (move_stage.GivingBack held why) move_stage.First old new before after (Some (reply.Refused given)) at a same =
     ends_raise _ (MovesIn name uid.0 target s) s mid new after (reply.Refused given)
     (short_raise (MovesIn name uid.0 target s) s mid given new after (λ e. may_move name uid.0 target s (reply.Refused given) at.0.may (inr (inl e))) (a.0 ∙ at.1) (given_back held s old new at.0.raised a.1))
@@ -137,5 +140,7 @@ begun_move name uid target s mid running (task.Expunge t) b = absurd (cc b.is_of
 begun_move name uid target s mid running (task.Copy t) b = absurd (cc b.is_of)
 begun_move name uid target s mid running (task.Fetch t) b = absurd (cc b.is_of)
 begun_move name uid target s mid running (task.Purge t) b = absurd (cc b.is_of)
+begun_move name uid target s mid running (task.Delete t) b = absurd (cc b.is_of)
+begun_move name uid target s mid running (task.Rename t) b = absurd (cc b.is_of)
 begun_move name uid target s mid running (task.Deliver t) b = absurd b.is_of
 begun_move name uid target s mid running (task.Resync t) b = absurd (cc b.is_of)

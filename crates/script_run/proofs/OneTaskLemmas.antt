@@ -161,6 +161,8 @@ tells_flag (task.Expunge t) next name uid flags old new before after ended of te
 tells_flag (task.Fetch t) next name uid flags old new before after ended of tells = absurd (cc of)
 tells_flag (task.Resync t) next name uid flags old new before after ended of tells = absurd (cc of)
 tells_flag (task.Purge t) next name uid flags old new before after ended of tells = absurd (cc of)
+tells_flag (task.Delete t) next name uid flags old new before after ended of tells = absurd (cc of)
+tells_flag (task.Rename t) next name uid flags old new before after ended of tells = absurd (cc of)
 tells_flag (task.Deliver t) next name uid flags old new before after ended of tells = absurd of
 
 pub keeps_flag : {D : Type 0} → (name : List ℕ) (uid : Uid) (flags : ℕ) (s : StoreValue D) → KeepsAlone (StandsFlag name uid flags s) (IsFlagTold name uid flags s)
@@ -185,7 +187,7 @@ StandsExpunge name uid s mid (task.Ops t) store history = request.Expunge name u
 StandsExpunge name uid s mid other store history = ⊥
 
 -- Its reply is by what the store had that was opened, whose disk a refusal leaves as it was.
-pub record IsExpungeTold (cause : Option Refusal) (mid : Option History) (given : Reply) (history : Option History) : Type 0 where
+pub record IsChangeTold (cause : Option Refusal) (mid : Option History) (given : Reply) (history : Option History) : Type 0 where
   pub given_is : IsChangeAnswer cause given
   pub unchanged : (why : Refusal) → given ≡ reply.Refused why → (why ≡ refusal.Stopped → ⊥) → IsIdle mid history
 
@@ -204,11 +206,11 @@ first_told name uid old new why (same, inr none) = (there_answers (missing_messa
 pub one_refusal : (a b : Refusal) → reply.Refused a ≡ reply.Refused b → a ≡ b
 one_refusal a b e = cc e
 
-told_so : (cause : Option Refusal) (mid history : Option History) (one : Reply) → IsExpungeTold cause mid one history → (given : Reply) → Some one ≡ Some given → IsExpungeTold cause mid given history
-told_so cause mid history one is given e = subst (λ (r : Reply). IsExpungeTold cause mid r history) (some_reply one given e) is
+pub told_so : (cause : Option Refusal) (mid history : Option History) (one : Reply) → IsChangeTold cause mid one history → (given : Reply) → Some one ≡ Some given → IsChangeTold cause mid given history
+told_so cause mid history one is given e = subst (λ (r : Reply). IsChangeTold cause mid r history) (some_reply one given e) is
 
 expunge_at : {D : Type 0} → (name : List ℕ) (uid : Uid) (s : StoreValue D) (mid : Option History) (now next : ExpungeStage) (old new : StoreValue D) (before after : Option History) (ended : Option Reply) → AtExpunge name uid s mid now old before → ExpungeAnswers name uid now old new next (progress_by ended) → (new ≡ old → IsIdle before after)
-    → (ended ≡ None → AtExpunge name uid s mid next new after) × ((given : Reply) → ended ≡ Some given → IsExpungeTold (missing_message name uid.0 s) mid given after)
+    → (ended ≡ None → AtExpunge name uid s mid next new after) × ((given : Reply) → ended ≡ Some given → IsChangeTold (missing_message name uid.0 s) mid given after)
 expunge_at name uid s mid expunge_stage.First (expunge_stage.Owing owed) old new before after None at a same = (
   λ more. subst (λ (v : StoreValue _). missing_message name uid.0 v ≡ None) at.0 (not_missing name uid.0 old a.0 a.1 a.2),
   λ given e. absurd (let k : None ≡ Some given = e in cc k),
@@ -234,7 +236,7 @@ expunge_at name uid s mid (expunge_stage.Owing owed) (expunge_stage.Owing still)
 expunge_at name uid s mid now next old new before after ended at a same = absurd a
 
 expunge_on : {D : Type 0} → (name : List ℕ) (uid : Uid) (s : StoreValue D) (mid : Option History) (t next : Task) (old new : StoreValue D) (before after : Option History) (ended : Option Reply) → StandsExpunge name uid s mid t old before → StaysOfRequest t next → TellsStore t next old new before after ended → (new ≡ old → IsIdle before after) → (ended ≡ None → new.stopped ≡ false)
-    → (ended ≡ None → StandsExpunge name uid s mid next new after) × ((given : Reply) → ended ≡ Some given → IsExpungeTold (missing_message name uid.0 s) mid given after)
+    → (ended ≡ None → StandsExpunge name uid s mid next new after) × ((given : Reply) → ended ≡ Some given → IsChangeTold (missing_message name uid.0 s) mid given after)
 expunge_on name uid s mid (task.Expunge t) (task.Expunge next) old new before after ended is kind tells same runs =
     let a = subst (λ (n : List ℕ). ExpungeAnswers n uid t.stage old new next.stage (progress_by ended)) is.0 (subst (λ (u : Uid). ExpungeAnswers t.name u t.stage old new next.stage (progress_by ended)) is.1 (tells is.2)) in
     let k = expunge_at name uid s mid t.stage next.stage old new before after ended is.3 a same in
@@ -243,7 +245,7 @@ expunge_on name uid s mid (task.Ops t) next old new before after ended is kind t
 expunge_on name uid s mid (task.Expunge t) next old new before after ended is kind tells same runs = absurd kind
 expunge_on name uid s mid t next old new before after ended is kind tells same runs = absurd is
 
-pub keeps_expunge : {D : Type 0} → (name : List ℕ) (uid : Uid) (s : StoreValue D) (mid : Option History) → KeepsAlone (StandsExpunge name uid s mid) (λ given store history. IsExpungeTold (missing_message name uid.0 s) mid given history)
+pub keeps_expunge : {D : Type 0} → (name : List ℕ) (uid : Uid) (s : StoreValue D) (mid : Option History) → KeepsAlone (StandsExpunge name uid s mid) (λ given store history. IsChangeTold (missing_message name uid.0 s) mid given history)
 keeps_expunge name uid s mid queued next event old new before after first second is goes =
     expunge_on name uid s mid queued.task next old new before after (ended_by event.ended) is goes.keeps.request goes.keeps.tells (λ back. goes.keeps.same (ap (λ (v : StoreValue _). v.disk) back))
     (λ more. not_true new.stopped (λ stopped. let k : None ≡ Some (reply.Refused refusal.Stopped) = sym more ∙ ap ended_by (goes.stopped stopped) in cc k))
@@ -261,5 +263,7 @@ begun_expunge name uid s mid running (task.Copy t) b = absurd (cc b.is_of)
 begun_expunge name uid s mid running (task.Move t) b = absurd (cc b.is_of)
 begun_expunge name uid s mid running (task.Fetch t) b = absurd (cc b.is_of)
 begun_expunge name uid s mid running (task.Purge t) b = absurd (cc b.is_of)
+begun_expunge name uid s mid running (task.Delete t) b = absurd (cc b.is_of)
+begun_expunge name uid s mid running (task.Rename t) b = absurd (cc b.is_of)
 begun_expunge name uid s mid running (task.Deliver t) b = absurd b.is_of
 begun_expunge name uid s mid running (task.Resync t) b = absurd (cc b.is_of)

@@ -190,5 +190,7 @@ begun_purge s mid unused running (task.Copy t) b = absurd (cc b.is_of)
 begun_purge s mid unused running (task.Expunge t) b = absurd (cc b.is_of)
 begun_purge s mid unused running (task.Move t) b = absurd (cc b.is_of)
 begun_purge s mid unused running (task.Fetch t) b = absurd (cc b.is_of)
+begun_purge s mid unused running (task.Delete t) b = absurd (cc b.is_of)
+begun_purge s mid unused running (task.Rename t) b = absurd (cc b.is_of)
 begun_purge s mid unused running (task.Resync t) b = absurd (cc b.is_of)
 begun_purge s mid unused running (task.Deliver t) b = absurd b.is_of

@@ -1,7 +1,6 @@
 -- The lists that a crash may leave of a request alone that makes one step.
-use Rattle.std.specs.Prelude.{◌≡◌, ◌≤◌, ◌<◌, ◌==◌, ◌++◌, ℕ, zero, suc, Bool, true, false, cond, List, [], ◌∷◌, ◌⊎◌, All, AllPairs, drop, filter, length, map, slice_get, take, Option, Some, None}
+use Rattle.std.specs.Prelude.{◌≡◌, ◌≤◌, ◌<◌, ◌++◌, ℕ, zero, suc, false, List, [], ◌∷◌, ◌⊎◌, All, AllPairs, drop, length, map, slice_get, take, Option, Some, None}
 use Rattle.std.proofs.Common.{refl, sym, ◌∙◌, ap, subst, arith, inl, inr}
-use Rattle.std.proofs.lemmas.Grind.{common_steps}
 use Rattle.std.proofs.lemmas.List.{length-map, length-append}
 use Rattle.std.proofs.lemmas.List.Elements.{All-cons, All-head, All-nil, All-tail}
 use Rattle.model_octets.proofs.PairLemmas.{pairs_head}
@@ -18,8 +17,8 @@ use Rattle.model_lists.specs.Lists.{Lists}
 use Rattle.model_meaning.specs.BoxMeaning.{BoxMeaning}
 use Rattle.model_meaning.specs.MapMeaning.{MapMeaning}
 use Rattle.list_machine.specs.Machine.{Does, PartAnswers}
-use Rattle.list_machine.specs.Run.{EventPart, First, GivesBack, Last, Run, RunEvent, before}
-use Rattle.journal.specs.Events.{Around, behind_event, behind_expunge}
+use Rattle.list_machine.specs.Run.{EventPart, First, GivesBack, Last, RemovesLog, Run, RunEvent, before}
+use Rattle.journal.specs.Events.{Around, behind_delete, behind_event, behind_expunge}
 use Rattle.journal.specs.Journal.{AreSteps, Broken, IsLegal, IsStep, JournalStep, Reached, WouldHaveBeen, as_if, halves_of, left_by, refusal_in, steps_of}
 use Rattle.journal.specs.Makes.{AreNextEvents, IsServed}
 use Rattle.journal.proofs.AloneLemmas.{all_own}
@@ -49,6 +48,18 @@ expunge_behind around run name uid e part None parts refused is = by_part part (
     by_part First k = let z : Some GivesBack ≡ Some First = k in cc (some_part GivesBack First z)
     by_part part k = let z : None ≡ Some First = k in cc z
 
+delete_behind : (around : Around) (run : Run) (name : List ℕ) (e : RunEvent) (part : EventPart) (refused : Option Refusal) → e.part ≡ part → e.refused ≡ refused → behind_event around run (request.Delete name) e e.refused ≡ Some First → ⊥
+delete_behind around run name e part (Some why) parts refused is = let k : None ≡ Some First = ap (λ (r : Option Refusal). behind_event around run (request.Delete name) e r) (sym refused) ∙ is in cc k
+delete_behind around run name e part None parts refused is = by_part part (ap behind_delete (sym parts) ∙ (ap (λ (r : Option Refusal). behind_event around run (request.Delete name) e r) (sym refused) ∙ is))
+  where
+    by_part : (part : EventPart) → behind_delete part ≡ Some First → ⊥
+    by_part First k = let z : Some RemovesLog ≡ Some First = k in cc (some_part RemovesLog First z)
+    by_part part k = let z : None ≡ Some First = k in cc z
+
+rename_behind : (around : Around) (run : Run) (name target : List ℕ) (e : RunEvent) (refused : Option Refusal) (next : EventPart) → behind_event around run (request.Rename name target) e refused ≡ Some next → ⊥
+rename_behind around run name target e None next is = let k : None ≡ Some next = is in cc k
+rename_behind around run name target e (Some why) next is = let k : None ≡ Some next = is in cc k
+
 -- a copy was served from lists that the logs show
 abbrev CopiesIf : Request → Run → Lists → List JournalStep → Type 0
 CopiesIf (request.Copy name uid target) run start journal = CopiesAlone false name uid target run start journal
@@ -61,6 +72,14 @@ step_at around after start (request.Expunge name uid) run journal one copies nex
 step_at around after start (request.Expunge name uid) run journal one copies next (suc n) event at part =
     let b = part_after around after start (request.Expunge name uid) run journal next n event at in
     absurd (expunge_behind (around (suc n)) (before (suc n) run) name uid b.0 b.0.part b.0.refused refl refl (b.2 ∙ ap (λ (p : EventPart). Some p) part))
+step_at around after start (request.Delete name) run journal one copies next zero event at part = refl
+step_at around after start (request.Delete name) run journal one copies next (suc n) event at part =
+    let b = part_after around after start (request.Delete name) run journal next n event at in
+    absurd (delete_behind (around (suc n)) (before (suc n) run) name b.0 b.0.part b.0.refused refl refl (b.2 ∙ ap (λ (p : EventPart). Some p) part))
+step_at around after start (request.Rename name target) run journal one copies next zero event at part = refl
+step_at around after start (request.Rename name target) run journal one copies next (suc n) event at part =
+    let b = part_after around after start (request.Rename name target) run journal next n event at in
+    absurd (rename_behind (around (suc n)) (before (suc n) run) name target b.0 b.0.refused event.part b.2)
 step_at around after start (request.List name) run journal one copies next n event at part = first_only around after start (request.List name) run journal one next n event at
 step_at around after start (request.Flag name uid flags) run journal one copies next n event at part = first_only around after start (request.Flag name uid flags) run journal one next n event at
 step_at around after start request.Counts run journal one copies next n event at part = first_only around after start request.Counts run journal one next n event at
@@ -77,6 +96,10 @@ does_at request.Counts one run event First given old new d = refl
 does_at request.Counts one run event part given old new d = absurd d
 does_at (request.Expunge name uid) one run event First given old new d = refl
 does_at (request.Expunge name uid) one run event part given old new d = absurd d
+does_at (request.Delete name) one run event First given old new d = refl
+does_at (request.Delete name) one run event part given old new d = absurd d
+does_at (request.Rename name target) one run event First given old new d = refl
+does_at (request.Rename name target) one run event part given old new d = absurd d
 does_at (request.Copy name uid target) one run event Last given old new d = refl
 does_at (request.Copy name uid target) one run event part given old new d = absurd d
 does_at other one run event part given old new d = absurd one

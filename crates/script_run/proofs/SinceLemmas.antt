@@ -76,6 +76,8 @@ begun_first asked (task.Expunge t) b = b.at
 begun_first asked (task.Fetch t) b = b.at
 begun_first asked (task.Resync t) b = b.at
 begun_first asked (task.Purge t) b = tt
+begun_first asked (task.Delete t) b = b.at
+begun_first asked (task.Rename t) b = tt
 begun_first (request.Deliver name time octets) (task.Deliver t) b = (b.at.0, b.at.1)
 begun_first asked (task.Deliver t) b = absurd b.at
 
@@ -111,6 +113,8 @@ reads_task asked (task.Expunge t) reads of = absurd (reads_as asked (request.Exp
 reads_task asked (task.Fetch t) reads of = tt
 reads_task asked (task.Resync t) reads of = absurd (reads_as asked request.Resync refl of reads)
 reads_task asked (task.Purge t) reads of = absurd (reads_as asked request.Purge refl of reads)
+reads_task asked (task.Delete t) reads of = absurd (reads_as asked (request.Delete t.name) refl of reads)
+reads_task asked (task.Rename t) reads of = absurd (reads_as asked (request.Rename t.name t.target) refl of reads)
 reads_task (request.Deliver name time octets) (task.Deliver t) reads of = absurd (let k : false ≡ true = reads in cc k)
 reads_task asked (task.Deliver t) reads of = absurd of
 

@@ -21,7 +21,6 @@ use Rattle.list_machine.specs.Run.{EventPart, First, Last, SecondHalf, Run, RunE
 use Rattle.journal.specs.Journal.{AreSteps, IsFirstPart, IsLegal, IsReplyOf, IsStep, JournalStep, Requests, halves_of, left_by, steps_of}
 use Rattle.journal.proofs.AloneLemmas.{all_own}
 use Rattle.mail_ops.specs.Copy.{copied_lists}
-use Rattle.model_store.specs.Settled.{IsSettledFor}
 use Rattle.script_run.specs.Done.{IsScriptDone, MayRead}
 use Rattle.script_run.specs.One.{AreListsTold, IsUnfailed, ServesRequest, lists_told, moved_lists}
 use Rattle.script_run.specs.Opening.{AreSafeFor, LogsShowLists}

@@ -541,5 +541,7 @@ begun_fetch name uid first mid began undoomed (task.Copy t) b = absurd (cc b.is_
 begun_fetch name uid first mid began undoomed (task.Move t) b = absurd (cc b.is_of)
 begun_fetch name uid first mid began undoomed (task.Expunge t) b = absurd (cc b.is_of)
 begun_fetch name uid first mid began undoomed (task.Purge t) b = absurd (cc b.is_of)
+begun_fetch name uid first mid began undoomed (task.Delete t) b = absurd (cc b.is_of)
+begun_fetch name uid first mid began undoomed (task.Rename t) b = absurd (cc b.is_of)
 begun_fetch name uid first mid began undoomed (task.Deliver t) b = absurd b.is_of
 begun_fetch name uid first mid began undoomed (task.Resync t) b = absurd (cc b.is_of)

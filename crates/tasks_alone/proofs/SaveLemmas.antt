@@ -955,3 +955,5 @@ begun_save name time octets prepared first mid running (task.Expunge t) b = absu
 begun_save name time octets prepared first mid running (task.Fetch t) b = absurd (cc b.is_of)
 begun_save name time octets prepared first mid running (task.Resync t) b = absurd (cc b.is_of)
 begun_save name time octets prepared first mid running (task.Purge t) b = absurd (cc b.is_of)
+begun_save name time octets prepared first mid running (task.Delete t) b = absurd (cc b.is_of)
+begun_save name time octets prepared first mid running (task.Rename t) b = absurd (cc b.is_of)

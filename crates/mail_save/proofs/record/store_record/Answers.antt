@@ -70,7 +70,7 @@ returns-clause-stores g c = elim c.match-append_map.branch [
       stores_placed c.args.at c.args.rows time size c.in-Some.uid c.args.store.now c.append_map.new.self w.release-in-Ok.new.self c.in-Some.ensures.some.0 c.in-Some.ensures.some.1.high
       (record_fits c.in-Some.uid c.args.at c.args.rows c.args.store.now _ (c.known_rows_agree.ensures _ c.args.store.now c.args.rows c.facts.ensures.instances c.requires.instances.known) c.facts.ensures.store c.facts.ensures.files c.requires.placed c.requires.size c.in-Some.ensures.some.0 c.in-Some.ensures.some.1)
       w.in-Ok.ensures.taken made w.in-Ok.ensures.drawn w.in-Ok.ensures.due
-      c.append_map.ensures.mailboxes c.append_map.ensures.same c.append_map.ensures.room w.release-in-Ok.ensures.same w.release-in-Ok.ensures.ends)
+      c.append_map.ensures.mailboxes c.append_map.ensures.same c.append_map.ensures.room w.in-Ok.ensures.further w.release-in-Ok.ensures.same w.release-in-Ok.ensures.ends)
   | in-Err-Stopped w ↦ rw w.stored-is tt
   | in-Err-NoMemory w ↦ rw w.stored-is tt
 ]
@@ -98,7 +98,7 @@ returns-clause-none g c = elim c.match-append_map.branch [
   | in-Err-Stopped w ↦
       rw (w.stored-is, w.store-is) (let o = c.append_map.ensures in
       let k = w.in-Err-Stopped.ensures.untaken refl in
-      inl (refl, left_alone c.args.store.now c.append_map.new.self o.same o.room k.0 k.1 k.2))
+      inl (refl, left_alone c.args.store.now c.append_map.new.self (w.in-Err-Stopped.ensures.stopped.0 (ap Err w.in-Err-Stopped.field-0-is)) o.same o.room k.0 k.1 k.2))
   | in-Err-NoMemory w ↦
       rw (w.stored-is, w.store-is) (inr ((λ e. cc e), gives_back c.args.at.file.0 c.args.store.now c.append_map.new.self w.release-in-Err-NoMemory.new.self (w.in-Err-NoMemory.ensures.memory (ap Err w.in-Err-NoMemory.field-0-is)).0 w.release-in-Err-NoMemory.ensures.same w.release-in-Err-NoMemory.ensures.ends))
 ]

@@ -40,7 +40,7 @@ returns-in-Ok-clause-steps g c t h to =
       order = c.facts.ensures.files;
       switch = switch;
       made = made_switch c.args.work one.0 one.1 c.in-Ok.switched c.args.store.now c.switch.new.store (g.D.Disk.history c.args.store.now.disk) (g.D.Disk.history c.switch.new.store.disk) one.2 switch c.in-Ok.ensures.due c.in-Ok.ensures.spared c.in-Ok.ensures.others
-          (c.in-Ok.ensures.kept one.0 one.1 one.2.left_are) c.in-Ok.ensures.firm c.in-Ok.ensures.room c.in-Ok.ensures.mailboxes;
+          (c.in-Ok.ensures.kept one.0 one.1 one.2.left_are) c.in-Ok.ensures.firm c.in-Ok.ensures.room c.in-Ok.ensures.further c.in-Ok.ensures.mailboxes;
       leaves = record { moments = c.in-Ok.ensures.any_moment; rests = c.in-Ok.ensures.settled; grows = c.in-Ok.ensures.grows; mail = c.in-Ok.ensures.mail_stays; quiet = c.in-Ok.ensures.unfailed };
     })
     h to c.next_stage.ensures refl refl refl refl

@@ -1,4 +1,4 @@
-use Rattle.resync_task.proofs.Common.{sym, ◌∙◌, ap, length, List, MapCount, wrong_of}
+use Rattle.resync_task.proofs.Common.{sym, ◌∙◌, ap, arith, length, List, MapCount, wrong_of}
 use Rattle.task_steps.proofs.OneEventLemmas.{not_true, ok_is_none}
 use Rattle.resync_task.proofs.CorrectingLemmas.{append_rest, entry_due, entry_fits, entry_in_range, few_rows, no_length, right_none, some_taken}
 use Rattle.resync_task.proofs.correcting.put_right.Goals as goal
@@ -37,6 +37,7 @@ returns g c =
       runs = not_true _ (λ e. ok_is_none _ (o.stopped.1 e));
       many = c.length-many.ensures ∙ ap (λ (cs : List MapCount). length cs) c.in_ok-counts.ensures;
       map = o.taken ∙ some_taken c.in_ok-counts.counts (wrong_of c.args.store.now) c.args.store.now.map c.in_ok-counts.ensures (λ e. c.if-many-eq0.false (c.length-many.ensures ∙ e));
+      end = let further = o.further in omega (arith, further);
       due = o.due;
       settled = λ lists s. o.settled lists tt tt s;
       mail = o.others;

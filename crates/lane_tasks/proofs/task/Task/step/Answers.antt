@@ -11,13 +11,14 @@ use Rattle.purge_task.specs.Quiet.{KeepsQuiet}
 use Rattle.lane_tasks.specs.Clause.{TaskKeeps, StepsTask, progress_by}
 use Rattle.lane_tasks.specs.declared.task.Task.TheVariants as task
 use Rattle.mail_ops.specs.Copy.{CopyAnswers}
+use Rattle.mail_ops.specs.Deleting.{DeleteAnswers}
 use Rattle.mail_ops.specs.Expunging.{ExpungeAnswers}
 use Rattle.mail_ops.specs.Moving.{MoveAnswers}
 use Rattle.mail_ops.proofs.LeavingLemmas.{same_leaves}
 use Rattle.mail_fetch.proofs.StageLemmas.{halted_reply, used_halted}
 use Rattle.mail_save.proofs.SaveReadyLemmas.{left_with_room}
-use Rattle.lane_tasks.proofs.KeepLemmas.{copy_refused, expunge_refused, keeps_by, keeps_fetching, keeps_purging, keeps_resyncing, keeps_saving, keeps_still, make_refused, move_refused, ops_refused, progress_back}
-use Rattle.lane_tasks.proofs.StepLemmas.{copy_does, counts_does, deliver_does, deliver_ran, expunge_does, fetch_does, logs_files, make_does, make_fewer, lists_same, make_numbered, move_does, ops_asked, ops_does, purge_does, ran_before, ready_as, resync_does, rest_files, stays_stopped, use_room}
+use Rattle.lane_tasks.proofs.KeepLemmas.{copy_refused, delete_refused, expunge_refused, keeps_by, keeps_fetching, keeps_purging, keeps_resyncing, keeps_saving, keeps_still, make_refused, move_refused, ops_refused, progress_back, rename_refused}
+use Rattle.lane_tasks.proofs.StepLemmas.{copy_does, counts_does, delete_does, deliver_does, deliver_ran, expunge_does, fetch_does, logs_files, make_does, make_fewer, lists_same, make_numbered, move_does, ops_asked, ops_does, purge_does, ran_before, ready_as, rename_does, resync_does, rest_files, stays_stopped, use_room}
 use Rattle.lane_tasks.proofs.task.Task.step.Goals as goal
 
 pub returns-in-Ops-clause-does : goal.returns-in-Ops-clause-does
@@ -50,6 +51,16 @@ returns-in-Expunge-clause-does g c =
     subst (λ (t : Task). StepsTask t (task.Expunge c.step-in-Expunge.new.self) c.args.store.now c.step-in-Expunge.new.store (g.D.Disk.history c.args.store.now.disk) (g.D.Disk.history c.step-in-Expunge.new.store.disk) (g.D.Disk.faults c.args.store.now.disk) (g.D.Disk.faults c.step-in-Expunge.new.store.disk) (ended_by c.step-in-Expunge.result)) (sym c.in-Expunge.is)
     (expunge_does c.in-Expunge.task c.step-in-Expunge.new.self c.args.store.now c.step-in-Expunge.new.store (g.D.Disk.history c.args.store.now.disk) (g.D.Disk.history c.step-in-Expunge.new.store.disk) (g.D.Disk.faults c.args.store.now.disk) (g.D.Disk.faults c.step-in-Expunge.new.store.disk) (ended_by c.step-in-Expunge.result) c.step-in-Expunge.ensures.request c.step-in-Expunge.ensures.keeps.rest c.step-in-Expunge.ensures.does)
 
+pub returns-in-Delete-clause-does : goal.returns-in-Delete-clause-does
+returns-in-Delete-clause-does g c =
+    subst (λ (t : Task). StepsTask t (task.Delete c.step-in-Delete.new.self) c.args.store.now c.step-in-Delete.new.store (g.D.Disk.history c.args.store.now.disk) (g.D.Disk.history c.step-in-Delete.new.store.disk) (g.D.Disk.faults c.args.store.now.disk) (g.D.Disk.faults c.step-in-Delete.new.store.disk) (ended_by c.step-in-Delete.result)) (sym c.in-Delete.is)
+    (delete_does c.in-Delete.task c.step-in-Delete.new.self c.args.store.now c.step-in-Delete.new.store (g.D.Disk.history c.args.store.now.disk) (g.D.Disk.history c.step-in-Delete.new.store.disk) (g.D.Disk.faults c.args.store.now.disk) (g.D.Disk.faults c.step-in-Delete.new.store.disk) (ended_by c.step-in-Delete.result) c.step-in-Delete.ensures.request c.step-in-Delete.ensures.keeps.rest c.step-in-Delete.ensures.does)
+
+pub returns-in-Rename-clause-does : goal.returns-in-Rename-clause-does
+returns-in-Rename-clause-does g c =
+    subst (λ (t : Task). StepsTask t (task.Rename c.step-in-Rename.new.self) c.args.store.now c.step-in-Rename.new.store (g.D.Disk.history c.args.store.now.disk) (g.D.Disk.history c.step-in-Rename.new.store.disk) (g.D.Disk.faults c.args.store.now.disk) (g.D.Disk.faults c.step-in-Rename.new.store.disk) (ended_by c.step-in-Rename.result)) (sym c.in-Rename.is)
+    (rename_does c.in-Rename.task c.step-in-Rename.new.self c.args.store.now c.step-in-Rename.new.store (g.D.Disk.history c.args.store.now.disk) (g.D.Disk.history c.step-in-Rename.new.store.disk) (g.D.Disk.faults c.args.store.now.disk) (g.D.Disk.faults c.step-in-Rename.new.store.disk) (ended_by c.step-in-Rename.result) c.step-in-Rename.ensures.request c.step-in-Rename.ensures.keeps.rest c.step-in-Rename.ensures.does)
+
 -- ---- what it does with claims
 
 pub returns-in-Ops-clause-claims : goal.returns-in-Ops-clause-claims
@@ -77,6 +88,14 @@ returns-in-Move-clause-claims g c = λ runs.
 pub returns-in-Expunge-clause-claims : goal.returns-in-Expunge-clause-claims
 returns-in-Expunge-clause-claims g c = λ runs.
     subst (λ (t : Task). MovesOwnClaims (claims_at t) (claims_at (task.Expunge c.step-in-Expunge.new.self)) c.step-in-Expunge.result c.args.store.now c.step-in-Expunge.new.store (g.D.Disk.history c.args.store.now.disk) (g.D.Disk.history c.step-in-Expunge.new.store.disk)) (sym c.in-Expunge.is) (c.step-in-Expunge.ensures.claims runs)
+
+pub returns-in-Delete-clause-claims : goal.returns-in-Delete-clause-claims
+returns-in-Delete-clause-claims g c = λ runs.
+    subst (λ (t : Task). MovesOwnClaims (claims_at t) (claims_at (task.Delete c.step-in-Delete.new.self)) c.step-in-Delete.result c.args.store.now c.step-in-Delete.new.store (g.D.Disk.history c.args.store.now.disk) (g.D.Disk.history c.step-in-Delete.new.store.disk)) (sym c.in-Delete.is) (c.step-in-Delete.ensures.claims runs)
+
+pub returns-in-Rename-clause-claims : goal.returns-in-Rename-clause-claims
+returns-in-Rename-clause-claims g c = λ runs.
+    subst (λ (t : Task). MovesOwnClaims (claims_at t) (claims_at (task.Rename c.step-in-Rename.new.self)) c.step-in-Rename.result c.args.store.now c.step-in-Rename.new.store (g.D.Disk.history c.args.store.now.disk) (g.D.Disk.history c.step-in-Rename.new.store.disk)) (sym c.in-Rename.is) (c.step-in-Rename.ensures.claims runs)
 
 pub returns-in-Fetch-clause-claims : goal.returns-in-Fetch-clause-claims
 returns-in-Fetch-clause-claims g c = λ runs.
@@ -113,6 +132,12 @@ returns-in-Move-clause-stopped g c = (c.step-in-Move.ensures.keeps.stopped.1, st
 
 pub returns-in-Expunge-clause-stopped : goal.returns-in-Expunge-clause-stopped
 returns-in-Expunge-clause-stopped g c = (c.step-in-Expunge.ensures.keeps.stopped.1, stays_stopped c.args.store.now c.step-in-Expunge.new.store (λ stopped. (c.step-in-Expunge.ensures.keeps.still stopped).0))
+
+pub returns-in-Delete-clause-stopped : goal.returns-in-Delete-clause-stopped
+returns-in-Delete-clause-stopped g c = (c.step-in-Delete.ensures.keeps.stopped.1, stays_stopped c.args.store.now c.step-in-Delete.new.store (λ stopped. (c.step-in-Delete.ensures.keeps.still stopped).0))
+
+pub returns-in-Rename-clause-stopped : goal.returns-in-Rename-clause-stopped
+returns-in-Rename-clause-stopped g c = (c.step-in-Rename.ensures.keeps.stopped.1, stays_stopped c.args.store.now c.step-in-Rename.new.store (λ stopped. (c.step-in-Rename.ensures.keeps.still stopped).0))
 
 pub returns-in-Fetch-clause-stopped : goal.returns-in-Fetch-clause-stopped
 returns-in-Fetch-clause-stopped g c = (
@@ -248,6 +273,26 @@ returns-in-Expunge-clause-keeps g c =
     subst (λ (k : Task). TaskKeeps k (task.Expunge c.step-in-Expunge.new.self) old new (g.D.Disk.history old.disk) (g.D.Disk.history new.disk) (g.D.Disk.faults old.disk) (g.D.Disk.faults new.disk) (ended_by c.step-in-Expunge.result)) (sym c.in-Expunge.is)
     (keeps_by g.D.Disk.history g.D.Disk.faults (task.Expunge c.in-Expunge.task) (task.Expunge c.step-in-Expunge.new.self) _ _ _ old new c.step-in-Expunge.result s.request (λ none. none) (rest_files old new s.keeps.rest) s.keeps (λ reads. absurd reads)
     (λ why begun ran e step. expunge_refused c.in-Expunge.task.name c.in-Expunge.task.uid c.in-Expunge.task.stage c.step-in-Expunge.new.self.stage old new c.step-in-Expunge.result why begun e step (s.replies ran)) (λ synced. synced) (λ ran. subst (λ (a : Progress). ExpungeAnswers t.name t.uid t.stage old new c.step-in-Expunge.new.self.stage a) (sym (progress_back c.step-in-Expunge.result)) (s.replies ran)) tt)
+
+pub returns-in-Delete-clause-keeps : goal.returns-in-Delete-clause-keeps
+returns-in-Delete-clause-keeps g c =
+    let s = c.step-in-Delete.ensures in
+    let old = c.args.store.now in
+    let new = c.step-in-Delete.new.store in
+    let t = c.in-Delete.task in
+    subst (λ (k : Task). TaskKeeps k (task.Delete c.step-in-Delete.new.self) old new (g.D.Disk.history old.disk) (g.D.Disk.history new.disk) (g.D.Disk.faults old.disk) (g.D.Disk.faults new.disk) (ended_by c.step-in-Delete.result)) (sym c.in-Delete.is)
+    (keeps_by g.D.Disk.history g.D.Disk.faults (task.Delete t) (task.Delete c.step-in-Delete.new.self) _ _ _ old new c.step-in-Delete.result s.request (λ none. none) (rest_files old new s.keeps.rest) s.keeps (λ reads. absurd reads)
+    (λ why begun ran e step. delete_refused t.name t.stage c.step-in-Delete.new.self.stage old new (g.D.Disk.history old.disk) (g.D.Disk.history new.disk) c.step-in-Delete.result why begun e step (s.replies ran)) (λ synced. synced) (λ ran. subst (λ (a : Progress). DeleteAnswers t.name t.stage old new (g.D.Disk.history old.disk) (g.D.Disk.history new.disk) c.step-in-Delete.new.self.stage a) (sym (progress_back c.step-in-Delete.result)) (s.replies ran)) tt)
+
+pub returns-in-Rename-clause-keeps : goal.returns-in-Rename-clause-keeps
+returns-in-Rename-clause-keeps g c =
+    let s = c.step-in-Rename.ensures in
+    let old = c.args.store.now in
+    let new = c.step-in-Rename.new.store in
+    let t = c.in-Rename.task in
+    subst (λ (k : Task). TaskKeeps k (task.Rename c.step-in-Rename.new.self) old new (g.D.Disk.history old.disk) (g.D.Disk.history new.disk) (g.D.Disk.faults old.disk) (g.D.Disk.faults new.disk) (ended_by c.step-in-Rename.result)) (sym c.in-Rename.is)
+    (keeps_by g.D.Disk.history g.D.Disk.faults (task.Rename t) (task.Rename c.step-in-Rename.new.self) _ _ _ old new c.step-in-Rename.result s.request (λ none. none) (rest_files old new s.keeps.rest) s.keeps (λ reads. absurd reads)
+    (λ why begun ran e step. let r = s.replies ran in rename_refused t.name t.target old new (g.D.Disk.history old.disk) (g.D.Disk.history new.disk) r.0 c.step-in-Rename.result why r.1 e step r.2) (λ synced. synced) (λ ran. let r = s.replies ran in (r.0, ap ended_by r.1, r.2)) tt)
 
 pub returns-in-Fetch-clause-keeps : goal.returns-in-Fetch-clause-keeps
 returns-in-Fetch-clause-keeps g c =

@@ -1,4 +1,4 @@
-use Rattle.mail_ops.proofs.Common.{refl, sym, ◌∙◌, ap, fall}
+use Rattle.mail_ops.proofs.Common.{refl, sym, ◌∙◌, fall}
 use Rattle.mail_ops.proofs.ChangeClaimLemmas.{owns_nothing, rename_changes}
 use Rattle.mail_ops.proofs.OnlyLogsLemmas.{halted_keeps}
 use Rattle.mail_ops.proofs.RenameStepLemmas.{rename_known_by, rename_stopped}
