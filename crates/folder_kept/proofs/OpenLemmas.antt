@@ -241,13 +241,6 @@ open_for_there {T} path to_write files at found kept is here same id use_of =
     let P : OpenFile T → Type 0 = λ file. string_bytes file.path ≡ path in
     (found, subst F (sym here) (Contains-get_or files at found is.0), subst P (sym here) (is.1 found), sym same, sym id, use_of)
 
--- no octets that aren't synced are let go
-pub keeps_all : {T : Type 0} (files : List (OpenFile T)) → KeepsUnsynced (λ file. ⊥) files files
-keeps_all files k d below unsynced = inl (Contains-get_or files k d below)
-
-pub keeps_same : {T : Type 0} (But : OpenFile T → Type 0) (files : List (OpenFile T)) → KeepsUnsynced But files files
-keeps_same But files k d below unsynced = inl (Contains-get_or files k d below)
-
 pub keeps_weaker : {T : Type 0} (But Other : OpenFile T → Type 0) (old new : List (OpenFile T)) → ((file : OpenFile T) → But file → Other file) → KeepsUnsynced But old new → KeepsUnsynced Other old new
 keeps_weaker But Other old new weaker keeps k d below unsynced = elim (keeps k d below unsynced) [ inl kept ↦ inl kept | inr but ↦ inr (weaker (get_or old k d) but) ]
 

@@ -95,7 +95,6 @@ impl<F: Folder + Drop> Folder for KeptFolder<F> {
         self.folder.paths_in(path)
     }
 
-    #[tactic(auto, using(crate::proofs::OpenLemmas::keeps_all))]
     fn open(&mut self, path: &str, to_write: bool) -> Result<KeptFile<F::File>, CallError>
         requires locked { IsLocked (F.Folder.modelled self.old.folder) }
         requires spelled { IsPath path.now }
@@ -118,7 +117,6 @@ impl<F: Folder + Drop> Folder for KeptFolder<F> {
         }
     }
 
-    #[tactic(auto, using(crate::proofs::OpenLemmas::keeps_all))]
     fn make_new(&mut self, path: &str) -> Result<KeptFile<F::File>, CallError>
         requires locked { IsLocked (F.Folder.modelled self.old.folder) }
         requires spelled { IsPath path.now }
@@ -204,7 +202,6 @@ impl<F: Folder + Drop> Folder for KeptFolder<F> {
         self.folder.set_length(&file.file, end)
     }
 
-    #[tactic(auto, using(crate::proofs::OpenLemmas::keeps_same))]
     fn sync(&mut self, file: &KeptFile<F::File>) -> Result<(), CallError>
         requires locked { IsLocked (F.Folder.modelled self.old.folder) }
         ensures synced { OnOk result (F.Folder.modelled self.new.folder ≡ done_by (with_synced_file (F.Folder.number (rc_value file.now.file))) (F.Folder.modelled self.old.folder)) }
