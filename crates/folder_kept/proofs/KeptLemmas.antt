@@ -1,14 +1,14 @@
 -- A folder whose files stay open, one call on.
-use Rattle.std.proofs.Common.{◌≡◌, ◌≢◌, ◌↔◌, ◌⊎◌, inl, inr, ℕ, ◌+◌, Bool, true, false, ◌&&◌, List, length, get_or, Option, Some, None, Result, Ok, Err, IfOk, OnErr, OnOk, All, Contains, string_bytes, refl, sym, ◌∙◌, ap, subst}
+use Rattle.std.proofs.Common.{◌≡◌, ◌≢◌, ◌↔◌, inl, inr, ℕ, Bool, true, false, ◌&&◌, List, get_or, Option, Some, None, Result, Ok, Err, IfOk, OnErr, OnOk, string_bytes, refl, sym, ◌∙◌, ap, subst}
 use Rattle.std.specs.Rc.{rc_value}
 use Rattle.std.proofs.Math.Logic.{∥∥₁_elim, ∥∥₁_map}
 use Rattle.std.proofs.Props.{props}
 use Rattle.std.proofs.lemmas.Bool.{cases_Bool, cond-true, cond-false, false≢true}
-use Rattle.std.proofs.lemmas.List.Elements.{All-contains, Contains-get_or}
+use Rattle.std.proofs.lemmas.List.Elements.{All-contains}
 use Rattle.disk_model.specs.Disk.{FileState}
 use Rattle.disk_model.specs.Name.{same_octets}
 use Rattle.disk_model.proofs.NameLemmas.{same_octets-true, same_octets-refl}
-use Rattle.folder_model.specs.System.{Node, Nothing, PlainFile, AFolder, Another, System, with_node, with_new_file, with_content, with_failed_sync, with_lock, weakened}
+use Rattle.folder_model.specs.System.{Node, Nothing, PlainFile, AFolder, Another, System, with_node, with_new_file, with_content, with_failed_sync, with_lock}
 use Rattle.folder_model.specs.Calls.{Modelled, IfModelled, IfSound, IsDoneOrNot, IsPartlyDone, Becomes, done_by, kind_of_node}
 use Rattle.folder_model.specs.declared.folder.CallError.{CallError}
 use Rattle.folder_model.specs.declared.folder.Kind.{Kind}

@@ -1,8 +1,8 @@
 // Files that stay open.
-ghost use Rattle.std.specs.Prelude.{◌≡◌, ◌≢◌, ◌<◌, ◌≤◌, ◌⊎◌, ◌++◌, ◌∷◌, [], true, false, length, vec_len, Contains, IfOk, IfSome, IfNone, OnOk, OnErr, string_bytes};
+ghost use Rattle.std.specs.Prelude.{◌≡◌, ◌≢◌, ◌<◌, ◌≤◌, ◌⊎◌, ◌++◌, ◌∷◌, [], true, false, length, vec_len, All, Contains, IfOk, IfSome, IfNone, OnOk, OnErr, string_bytes};
 ghost use Rattle.std.specs.List.{HoldsAt};
 ghost use Rattle.std.specs.Rc.{rc_value};
-ghost use Rattle.folder_kept.specs.Open.{IsOpenAt, IsNotOpen, IsKeptAt, IsOpenAs, AreAmong, AreMore, KeepsUnsynced};
+ghost use Rattle.folder_kept.specs.Open.{IsOpenAt, IsNotOpen, IsKeptAt, IsOpenAs, IsOpenFor, AreAmong, AreMore, AreMarked, HaveOwnIds, KeepsUnsynced};
 
 use folder_model::CallError;
 use std::alloc::Global;
@@ -62,6 +62,7 @@ impl<T: Drop> OpenFile<T> {
         ensures path { IfOk result (λ opened. string_bytes opened.path ≡ path.now) }
         ensures file { IfOk result (λ opened. rc_value opened.file ≡ rc_value kept.now.file) }
         ensures marks { IfOk result (λ opened. (opened.id ≡ kept.now.id) × (opened.is_synced ≡ is_synced)) }
+        ensures writable { IfOk result (λ opened. opened.is_to_write ≡ is_to_write) }
     {
         let KeptFile { file, id } = KeptFile::again(&kept.file, kept.id)?;
         match String::from_str(alloc, path) {
@@ -82,8 +83,10 @@ impl<T: Drop> OpenFile<T> {
 pub(crate) struct OpenFiles<T: Drop> {
     alloc: Global,
     files: Vec<OpenFile<T>>,
+    /// Above the number of each file that was opened.
     next_id: u64,
     ghost few: { vec_len files ≤ 16 },
+    ghost apart: { HaveOwnIds next_id files.items },
 }
 
 impl<T: Drop> OpenFiles<T> {
@@ -107,6 +110,22 @@ impl<T: Drop> OpenFiles<T> {
             .position(|file| file.path.as_str() == path)
     }
 
+    /// Where the file with a number is.
+    fn place_of(&self, id: u64) -> Option<usize>
+        ensures some { IfSome result (λ at. (at < length self.now.files.items) × HoldsAt (λ file. file.id ≡ id) self.now.files.items at) }
+        ensures none { IfNone result (All (λ file. file.id ≢ id) self.now.files.items) }
+    {
+        self.files.iter().position(|file| file.id == id)
+    }
+
+    /// Where the first of those is that are synced.
+    fn first_synced(&self) -> Option<usize>
+        ensures some { IfSome result (λ at. (at < length self.now.files.items) × HoldsAt (λ file. file.is_synced ≡ true) self.now.files.items at) }
+        ensures none { IfNone result (All (λ file. file.is_synced ≡ false) self.now.files.items) }
+    {
+        self.files.iter().position(|file| file.is_synced)
+    }
+
     /// Whether the file at a path is open.
     pub(crate) fn has(&self, path: &str) -> bool
         ensures open { result ≡ true → IsOpenAt path.now self.now.files.items }
@@ -124,7 +143,8 @@ impl<T: Drop> OpenFiles<T> {
         path: &str,
         to_write: bool,
     ) -> Result<Option<KeptFile<T>>, CallError>
-        ensures { IfOk result (λ found. IfSome found (λ kept. IsKeptAt path.now (rc_value kept.file) self.now.files.items)) }
+        ensures found { IfOk result (λ found. IfSome found (λ kept. IsKeptAt path.now (rc_value kept.file) self.now.files.items)) }
+        ensures writable { IfOk result (λ found. IfSome found (λ kept. IsOpenFor path.now to_write kept self.now.files.items)) }
     {
         let Some(at) = self.place(path) else {
             return Ok(None);
@@ -147,6 +167,7 @@ impl<T: Drop> OpenFiles<T> {
     ) -> Result<KeptFile<T>, CallError>
         ensures file { IfOk result (λ kept. rc_value kept.file ≡ file) }
         ensures open { IfOk result (λ kept. IsOpenAs kept.id is_synced self.new.files.items) }
+        ensures writable { IfOk result (λ kept. IsOpenFor path.now is_to_write kept self.new.files.items) }
         ensures more { AreMore path.now file self.old.files.items self.new.files.items }
         ensures keeps { KeepsUnsynced (λ _. ⊥) self.old.files.items self.new.files.items }
     {
@@ -161,9 +182,11 @@ impl<T: Drop> OpenFiles<T> {
         Ok(kept)
     }
 
-    /// Adds a file at the end.
+    /// Adds a file at the end, whose number is above that of each other.
     fn add(&mut self, opened: OpenFile<T>) -> Result<(), CallError>
-        requires { vec_len self.old.files < 16 }
+        requires place { vec_len self.old.files < 16 }
+        requires id { opened.id < self.old.next_id }
+        requires above { All (λ file. file.id < opened.id) self.old.files.items }
         ensures ok { OnOk result (self.new.files.items ≡ self.old.files.items ++ opened ∷ []) }
         ensures err { OnErr result (self.new.files.items ≡ self.old.files.items) }
     {
@@ -177,13 +200,14 @@ impl<T: Drop> OpenFiles<T> {
     #[tactic(auto, using(crate::proofs::OpenLemmas::among_same))]
     fn make_place(&mut self) -> Result<(), CallError>
         ensures place { OnOk result (vec_len self.new.files < 16) }
+        ensures full { OnErr result ((vec_len self.old.files ≡ 16) × All (λ file. file.is_synced ≡ false) self.old.files.items) }
         ensures same { AreAmong self.old.files.items self.new.files.items }
         ensures keeps { KeepsUnsynced (λ _. ⊥) self.old.files.items self.new.files.items }
     {
         if self.files.len() < MOST {
             return Ok(());
         }
-        match self.files.iter().position(|file| file.is_synced) {
+        match self.first_synced() {
             Some(at) => {
                 let _ = self.files.remove(at);
                 Ok(())
@@ -214,10 +238,13 @@ impl<T: Drop> OpenFiles<T> {
     #[tactic(auto, using(crate::proofs::OpenLemmas::among_same))]
     pub(crate) fn note(&mut self, id: u64, is_synced: bool) -> bool
         ensures noted { result ≡ true → IsOpenAs id is_synced self.new.files.items }
+        ensures marked { AreMarked id is_synced self.new.files.items }
+        ensures others { All (λ file. file.id ≢ id → Contains self.old.files.items file) self.new.files.items }
         ensures same { AreAmong self.old.files.items self.new.files.items }
-        ensures keeps { KeepsUnsynced (λ file. (file.id ≡ id) × (is_synced ≡ true)) self.old.files.items self.new.files.items }
+        ensures keeps { KeepsUnsynced (λ file. file.id ≡ id) self.old.files.items self.new.files.items }
+        ensures keeps_all { is_synced ≡ false → KeepsUnsynced (λ _. ⊥) self.old.files.items self.new.files.items }
     {
-        match self.files.iter().position(|file| file.id == id) {
+        match self.place_of(id) {
             Some(at) => {
                 self.files[at].is_synced = is_synced;
                 true

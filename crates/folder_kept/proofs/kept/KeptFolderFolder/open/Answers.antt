@@ -1,8 +1,8 @@
-use Rattle.std.proofs.Common.{◌≡◌, ℕ, Option, IfSome, refl, sym, subst}
+use Rattle.std.proofs.Common.{◌≡◌, Option, IfSome, sym, subst}
 use Rattle.std.specs.Rc.{rc_value}
 use Rattle.folder_model.specs.System.{PlainFile}
 use Rattle.folder_model.specs.Calls.{Modelled, IfSound, kind_of_node}
-use Rattle.folder_kept.specs.Open.{IsKeptAt}
+use Rattle.folder_kept.specs.Open.{IsKeptAt, IsOpenFor}
 use Rattle.folder_kept.proofs.KeptLemmas.{kept_same, kept_among, kept_more, open_number, opened_stands}
 use Rattle.folder_kept.proofs.kept.KeptFolderFolder.open.Goals as goal
 
@@ -10,7 +10,7 @@ pub returns-in-Some-clause-file : goal.returns-in-Some-clause-file
 returns-in-Some-clause-file g c =
     let self = c.args.self.now in
     let F : Option _ → Type 0 = λ found. IfSome found (λ kept. IsKeptAt c.args.path.now (rc_value kept.file) self.files.files.items) in
-    open_number g.F.Folder.number (g.F.Folder.modelled self.folder) c.args.path.now (rc_value c.in-Some.file.file) self.files.files.items self.kept (subst F c.in-Some.is c.in_ok-file.ensures)
+    open_number g.F.Folder.number (g.F.Folder.modelled self.folder) c.args.path.now (rc_value c.in-Some.file.file) self.files.files.items self.kept (subst F c.in-Some.is c.in_ok-file.ensures.found)
 
 pub invariant_of-self : goal.invariant_of-self
 invariant_of-self g c =
@@ -55,3 +55,8 @@ invariant_of-self-in_default-2 g c =
     let old = g.F.Folder.modelled self.folder in
     let files = c.close_synced.new.self.files.items in
     record { kept = kept_same g.F.Folder.number old (g.F.Folder.modelled c.look.new.self) files c.look.ensures.same (kept_among g.F.Folder.number old self.files.files.items files c.close_synced.ensures.same self.kept) }
+
+pub returns-in-Some-clause-writable : goal.returns-in-Some-clause-writable
+returns-in-Some-clause-writable g c =
+    let F : Option _ → Type 0 = λ found. IfSome found (λ kept. IsOpenFor c.args.path.now c.args.to_write kept c.args.self.now.files.files.items) in
+    subst F c.in-Some.is c.in_ok-file.ensures.writable

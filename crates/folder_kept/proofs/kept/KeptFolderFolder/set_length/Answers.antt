@@ -1,5 +1,4 @@
-use Rattle.std.proofs.Common.{take}
-use Rattle.disk_model.specs.Disk.{written, cut_to}
+use Rattle.disk_model.specs.Disk.{cut_to}
 use Rattle.folder_model.specs.System.{IsHalfCut}
 use Rattle.folder_kept.proofs.KeptLemmas.{kept_among, kept_through, changed_keeps}
 use Rattle.folder_kept.proofs.kept.KeptFolderFolder.set_length.Goals as goal

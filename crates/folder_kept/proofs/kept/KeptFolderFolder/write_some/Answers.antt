@@ -1,5 +1,5 @@
 use Rattle.std.proofs.Common.{length, take}
-use Rattle.disk_model.specs.Disk.{written, cut_to}
+use Rattle.disk_model.specs.Disk.{written}
 use Rattle.folder_model.specs.System.{IsHalfWritten}
 use Rattle.folder_kept.proofs.KeptLemmas.{kept_among, kept_through, wrote_keeps}
 use Rattle.folder_kept.proofs.kept.KeptFolderFolder.write_some.Goals as goal
