@@ -155,6 +155,7 @@ works_made lane old store replies replied journal broken before after first seco
   rows_are = refl;
   unanswered = event_unanswered (lane - 1) row now event old.store store before after first second old goes before sound there;
   replies_are = replies_are;
+  scripted_are = refl;
   replied_are = replied_are;
   earlier = earlier;
   earlier_is = earlier_is;
