@@ -26,7 +26,7 @@ invariant_of-self-2 g c =
       subst (λ (w : WorldValue _). IsSoundWorld (g.D.Disk.history c.self.inside.store.disk) w)
           (sym (world_set c.args.lane c.task_for.result c.index_mut.result.now c.push_back.new.self (record { place = c.len-place.result; task = c.task_for.result })
           (world_value c.self.inside.store c.self.inside.lanes.items c.self.inside.replies.given c.self.inside.replies.first c.self.inside.replied.items c.self.inside.journal.items c.self.inside.broken.items c.self.inside.began c.self.inside.turns.items c.self.inside.turn_room c.self.inside.finished)
-          c.ask.new.self.given c.reserve_to.new.items.items c.reserve_to-2.new.items.items c.in_ok-push_back.ensures.ok (ap (λ (n : ℕ). record { place = n; task = c.task_for.result }) place) told c.in_ok-reserve_to.ensures.same.0 c.in_ok-reserve_to-2.ensures.same.0))
+          c.ask.new.self.given c.ask.new.self.first c.reserve_to.new.items.items c.reserve_to-2.new.items.items c.in_ok-push_back.ensures.ok (ap (λ (n : ℕ). record { place = n; task = c.task_for.result }) place) told (c.ask.ensures.1 ∙ c.in_ok-reserve.ensures.same.1) c.in_ok-reserve_to.ensures.same.0 c.in_ok-reserve_to-2.ensures.same.0))
           (sound_asked c.args.lane c.args.request c.task_for.result c.index_mut.result.now
           (world_value c.self.inside.store c.self.inside.lanes.items c.self.inside.replies.given c.self.inside.replies.first c.self.inside.replied.items c.self.inside.journal.items c.self.inside.broken.items c.self.inside.began c.self.inside.turns.items c.self.inside.turn_room c.self.inside.finished)
           (g.D.Disk.history c.self.inside.store.disk) there c.task_for.ensures few running c.self.invariant.0),
@@ -60,7 +60,7 @@ returns-clause-ok g c =
         new_is =
             world_set c.args.lane c.task_for.result c.index_mut.result.now c.push_back.new.self (record { place = c.len-place.result; task = c.task_for.result })
             (world_value c.self.inside.store c.self.inside.lanes.items c.self.inside.replies.given c.self.inside.replies.first c.self.inside.replied.items c.self.inside.journal.items c.self.inside.broken.items c.self.inside.began c.self.inside.turns.items c.self.inside.turn_room c.self.inside.finished)
-            c.ask.new.self.given c.reserve_to.new.items.items c.reserve_to-2.new.items.items c.in_ok-push_back.ensures.ok (ap (λ (n : ℕ). record { place = n; task = c.task_for.result }) place) told c.in_ok-reserve_to.ensures.same.0 c.in_ok-reserve_to-2.ensures.same.0
+            c.ask.new.self.given c.ask.new.self.first c.reserve_to.new.items.items c.reserve_to-2.new.items.items c.in_ok-push_back.ensures.ok (ap (λ (n : ℕ). record { place = n; task = c.task_for.result }) place) told (c.ask.ensures.1 ∙ c.in_ok-reserve.ensures.same.1) c.in_ok-reserve_to.ensures.same.0 c.in_ok-reserve_to-2.ensures.same.0
             ∙ ap (world_asked c.args.lane c.task_for.result c.index_mut.result.now) c.self.view_is;
       },
     )

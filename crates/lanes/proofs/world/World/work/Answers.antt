@@ -63,8 +63,8 @@ returns-clause-works g c =
     let broken_room = room.broken_room in
     works_from g.D.Disk.history g.D.Disk.faults (c.args.lane - 1) _ _ _ c.self.view_is
     (works_made c.args.lane (world_value c.self.inside.store c.self.inside.lanes.items c.self.inside.replies.given c.self.inside.replies.first c.self.inside.replied.items c.self.inside.journal.items c.self.inside.broken.items c.self.inside.began c.self.inside.turns.items c.self.inside.turn_room c.self.inside.finished)
-    c.advance.new.store c.keep_reply.new.replies.given c.keep_count.new.counts.items c.keep_step.new.journal.items c.keep_broken.new.broken.items _ _ _ _ c.index_mut.result.now c.advance.new.self c.in-Some.event
-    c.moment-earlier.result c.moment-later.result c.saturating_sub-made.result c.saturating_sub-broken.result _ _ low c.self.invariant.0 there c.in-Some.ensures.some c.keep_reply.ensures.replies c.keep_count.ensures.counts
+    c.advance.new.store c.keep_reply.new.replies.given c.keep_reply.new.replies.first c.keep_count.new.counts.items c.keep_step.new.journal.items c.keep_broken.new.broken.items _ _ _ _ c.index_mut.result.now c.advance.new.self c.in-Some.event
+    c.moment-earlier.result c.moment-later.result c.saturating_sub-made.result c.saturating_sub-broken.result _ _ low c.self.invariant.0 there c.in-Some.ensures.some c.keep_reply.ensures.replies c.keep_reply.ensures.same c.keep_count.ensures.counts
     c.moment-earlier.ensures c.moment-later.ensures c.saturating_sub-made.ensures c.saturating_sub-broken.ensures c.keep_step.ensures.added (λ short. omega (arith, short, journal_is, journal_room)) c.keep_broken.ensures.added (λ short. omega (arith, short, broken_is, broken_room)))
 
 pub returns-clause-left : goal.returns-clause-left
@@ -79,8 +79,8 @@ returns-clause-left g c =
     let broken_is = room.broken_is in
     let broken_room = room.broken_room in
     let w = works_made c.args.lane (world_value c.self.inside.store c.self.inside.lanes.items c.self.inside.replies.given c.self.inside.replies.first c.self.inside.replied.items c.self.inside.journal.items c.self.inside.broken.items c.self.inside.began c.self.inside.turns.items c.self.inside.turn_room c.self.inside.finished)
-    c.advance.new.store c.keep_reply.new.replies.given c.keep_count.new.counts.items c.keep_step.new.journal.items c.keep_broken.new.broken.items _ _ _ _ c.index_mut.result.now c.advance.new.self c.in-Some.event
-    c.moment-earlier.result c.moment-later.result c.saturating_sub-made.result c.saturating_sub-broken.result _ _ low c.self.invariant.0 there c.in-Some.ensures.some c.keep_reply.ensures.replies c.keep_count.ensures.counts
+    c.advance.new.store c.keep_reply.new.replies.given c.keep_reply.new.replies.first c.keep_count.new.counts.items c.keep_step.new.journal.items c.keep_broken.new.broken.items _ _ _ _ c.index_mut.result.now c.advance.new.self c.in-Some.event
+    c.moment-earlier.result c.moment-later.result c.saturating_sub-made.result c.saturating_sub-broken.result _ _ low c.self.invariant.0 there c.in-Some.ensures.some c.keep_reply.ensures.replies c.keep_reply.ensures.same c.keep_count.ensures.counts
     c.moment-earlier.ensures c.moment-later.ensures c.saturating_sub-made.ensures c.saturating_sub-broken.ensures c.keep_step.ensures.added (λ short. omega (arith, short, journal_is, journal_room)) c.keep_broken.ensures.added (λ short. omega (arith, short, broken_is, broken_room)) in
     left_from (c.args.lane - 1) _ c.args.self.now _ _ _ _ _ c.self.view_is w c.self.invariant.0
 
@@ -96,8 +96,8 @@ invariant_of-self-2 g c =
     let broken_is = room.broken_is in
     let broken_room = room.broken_room in
     let w = works_made c.args.lane (world_value c.self.inside.store c.self.inside.lanes.items c.self.inside.replies.given c.self.inside.replies.first c.self.inside.replied.items c.self.inside.journal.items c.self.inside.broken.items c.self.inside.began c.self.inside.turns.items c.self.inside.turn_room c.self.inside.finished)
-    c.advance.new.store c.keep_reply.new.replies.given c.keep_count.new.counts.items c.keep_step.new.journal.items c.keep_broken.new.broken.items _ _ _ _ c.index_mut.result.now c.advance.new.self c.in-Some.event
-    c.moment-earlier.result c.moment-later.result c.saturating_sub-made.result c.saturating_sub-broken.result _ _ low c.self.invariant.0 there c.in-Some.ensures.some c.keep_reply.ensures.replies c.keep_count.ensures.counts
+    c.advance.new.store c.keep_reply.new.replies.given c.keep_reply.new.replies.first c.keep_count.new.counts.items c.keep_step.new.journal.items c.keep_broken.new.broken.items _ _ _ _ c.index_mut.result.now c.advance.new.self c.in-Some.event
+    c.moment-earlier.result c.moment-later.result c.saturating_sub-made.result c.saturating_sub-broken.result _ _ low c.self.invariant.0 there c.in-Some.ensures.some c.keep_reply.ensures.replies c.keep_reply.ensures.same c.keep_count.ensures.counts
     c.moment-earlier.ensures c.moment-later.ensures c.saturating_sub-made.ensures c.saturating_sub-broken.ensures c.keep_step.ensures.added (λ short. omega (arith, short, journal_is, journal_room)) c.keep_broken.ensures.added (λ short. omega (arith, short, broken_is, broken_room)) in
     let replies : length c.keep_reply.new.replies.given ≡ length c.self.inside.replies.given = ap (λ (rs : List (Option Reply)). length rs) c.keep_reply.ensures.replies ∙ replies_many (ended_by c.in-Some.event.ended) c.in-Some.event.place c.self.inside.replies.given in
     let replied : length c.keep_count.new.counts.items ≡ length c.self.inside.replied.items = ap (λ (ns : List ℕ). length ns) c.keep_count.ensures.counts ∙ replied_many (ended_by c.in-Some.event.ended) (c.args.lane - 1) c.self.inside.replied.items in
