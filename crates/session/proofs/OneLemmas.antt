@@ -1,5 +1,5 @@
 -- One request of a session, and one more.
-use Rattle.std.specs.Prelude.{◌≢◌, ◌≤◌, ◌<◌, ◌+◌, ◌⊎◌, All, Bool, if◌then◌else◌, length, option_map, take, slice_get, slice_index_or}
+use Rattle.std.specs.Prelude.{◌≢◌, ◌≤◌, ◌<◌, ◌+◌, ◌⊎◌, ◌||◌, All, Bool, if◌then◌else◌, length, option_map, take, slice_get, slice_index_or}
 use Rattle.std.specs.List.{list_any}
 use Rattle.std.proofs.Common.{◌≡◌, ◌++◌, ℕ, zero, suc, true, false, List, [], ◌∷◌, Option, Some, None, refl, sym, ◌∙◌, ap, subst, arith, inl, inr}
 use Rattle.std.proofs.lemmas.List.{append-nil, length-append}
@@ -109,7 +109,7 @@ any_kept p same (x ∷ given) (y ∷ kept) long each =
     let is : y ≡ first.0 = cc e in
     let head : p y ≡ p x = ap p is ∙ by_case first.0 first.2 in
     let tail = any_kept p same given kept (omega (arith, long)) (λ i one there. each (suc i) one there) in
-    ap (λ (b : Bool). if b then true else list_any p kept) head ∙ ap (λ (b : Bool). if p x then true else b) tail
+    ap (λ (b : Bool). b || list_any p kept) head ∙ ap (λ (b : Bool). p x || b) tail
   where
     by_case : (now : Option Reply) → IsKeptOf x now → p now ≡ p x
     by_case now (inl is) = ap p is

@@ -1,6 +1,5 @@
 use Rattle.std.proofs.Common.{◌≡◌, ◌≤◌, ◌<◌, ◌+◌, ◌-◌, ◌++◌, ◌∷◌, [], List, length, map, slice_get, slice_set, vec_len, Option, Some, None, sym, ◌∙◌, ap, subst, arith}
-use Rattle.std.proofs.lemmas.List.{length-append}
-use Rattle.std.proofs.lemmas.List.{length-set}
+use Rattle.std.proofs.lemmas.List.{length-append, length-set}
 use Rattle.std.proofs.lemmas.Option.{slice_get-get_or}
 use Rattle.std.specs.declared.snapshot.Snapshot.{Snapshot}
 use Rattle.mdbox_base.specs.declared.replies.Reply.{Reply}
@@ -14,7 +13,7 @@ invariant_of-self c =
     let now = c.if-place-self.self-inside in
     let since : AreKeptSince now.first (map (λ (one : Snapshot (Option Reply)). one.value) now.given.items) now.kept.items × (vec_len now.kept ≡ length now.kept.items) × (vec_len now.given ≡ length now.given.items) =
     elim c.if-place-self.branch [
-      then-place-self w ↦
+      | then-place-self w ↦
           let many = c.len-place.ensures in
           let long = c.self.invariant.1 in
           let behind = w.if-place-self.true in
