@@ -14,7 +14,7 @@ use Rattle.map_index.specs.Shown.{shown_box}
 use Rattle.map_index.specs.declared.rows.BoxAt.{BoxAt}
 use Rattle.mail_ops.proofs.FlagListLemmas.{some_there}
 use Rattle.model_lists.specs.Lists.{Lists}
-use Rattle.model_meaning.specs.BoxMeaning.{BoxMeaning, box_meaning}
+use Rattle.model_meaning.specs.BoxMeaning.{BoxMeaning}
 use Rattle.model_meaning.specs.MapMeaning.{MapBox, MapMeaning, box_at, map_meaning}
 use Rattle.model_meaning.specs.SameMeaning.{MeansSame}
 use Rattle.model_store.specs.GoodLogs.{AreGoodLogs}

@@ -1,5 +1,5 @@
 -- A fetch alone, by the script that it is.
-use Rattle.std.specs.Prelude.{◌≡◌, ◌⊎◌, ℕ, true, false, List, [], ◌∷◌, Option, Some}
+use Rattle.std.specs.Prelude.{◌≡◌, ℕ, true, false, List, [], ◌∷◌, Option, Some}
 use Rattle.std.proofs.Common.{refl, sym, ◌∙◌, ap, subst, inl, inr}
 use Rattle.std.proofs.lemmas.List.Elements.{All-head}
 use Rattle.disk_model.specs.Disk.{History, Faults}
@@ -32,7 +32,7 @@ use Rattle.script_run.proofs.ToldLemmas.{answers_of, replied_one, serves_one, st
 use Rattle.script_run.proofs.UnchangedLemmas.{closed_since, reads_safe, unchanged_since}
 use Rattle.script_run.proofs.WorkedLemmas.{worked_counted}
 use Rattle.mdbox_top.specs.Alone.{IsDoneAlone}
-use Rattle.mdbox_top.specs.FetchRun.{IsFetchReply, IsFetched, IsTextOf}
+use Rattle.mdbox_top.specs.FetchRun.{IsFetched, IsTextOf}
 use Rattle.tasks_alone.specs.FetchAlone.{IsFetchAnswer}
 use Rattle.tasks_alone.proofs.FetchLemmas.{IsFetchTold, StandsFetch, TakesMessage, begun_fetch, cause_of, keeps_fetch}
 

@@ -1,5 +1,5 @@
 -- An exercise of a store that has none of its mailboxes: each request is done, and what is counted is as in the script's own order.
-use Rattle.std.specs.Prelude.{◌≡◌, ◌<◌, ◌≤◌, ◌⊎◌, ◌||◌, ◌+◌, AllPairs, flat_map, sum_by, ℕ, Bool, true, false, if◌then◌else◌, All, List, [], ◌∷◌, length, map, None, Option, Some}
+use Rattle.std.specs.Prelude.{◌≡◌, ◌<◌, ◌≤◌, ◌⊎◌, ◌||◌, ◌+◌, AllPairs, flat_map, sum_by, ℕ, Bool, true, false, if◌then◌else◌, All, List, [], ◌∷◌, length, map, Option, Some}
 use Rattle.std.specs.List.{list_any}
 use Rattle.std.proofs.Common.{refl, sym, ◌∙◌, ap, arith, inl, inr, subst}
 use Rattle.std.proofs.lemmas.List.Elements.{All-cons, All-head, All-nil, All-tail, All-weaker}

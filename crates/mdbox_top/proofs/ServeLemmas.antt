@@ -4,7 +4,6 @@ use Rattle.std.proofs.Common.{refl, sym, ◌∙◌, ap, subst, inl, inr}
 use Rattle.disk_model.specs.Disk.{History, Faults}
 use Rattle.disk_model.specs.FaultCounts.{NoFault, AnyFaultCounted}
 use Rattle.disk_model.proofs.MomentLemmas.{each_image-map}
-use Rattle.mdbox_base.specs.declared.ids.Uid.{Uid}
 use Rattle.mdbox_base.specs.declared.replies.Refusal.TheVariants as refusal
 use Rattle.mdbox_base.specs.declared.replies.Reply.{Reply}
 use Rattle.mdbox_base.specs.declared.replies.Reply.TheVariants as reply

@@ -9,7 +9,6 @@ use Rattle.journal.specs.Journal.{Requests}
 use Rattle.piece_writer.specs.Pieces.{WritesPrefix}
 use Rattle.request_text.specs.Outcomes.{replies_outcome, status_of}
 use Rattle.request_text.specs.declared.outcome.InputRefusal.{InputRefusal}
-use Rattle.request_text.specs.declared.outcome.InputRefusal.TheVariants as refusal
 use Rattle.request_text.specs.declared.outcome.Outcome.{Outcome}
 use Rattle.request_text.specs.declared.outcome.Outcome.TheVariants as outcome
 use Rattle.request_text.specs.declared.outcome.StoreRefusal.{StoreRefusal}

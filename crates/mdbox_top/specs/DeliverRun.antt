@@ -1,5 +1,5 @@
 -- How `deliver` ends.
-use Rattle.std.specs.Prelude.{◌≡◌, ◌≤◌, ◌<◌, ◌⊎◌, ℕ, List, [], ◌∷◌, length, map, Option, Some, IfSome}
+use Rattle.std.specs.Prelude.{◌≡◌, ◌≤◌, ◌<◌, ◌⊎◌, ℕ, List, [], ◌∷◌, length, Option, Some, IfSome}
 use Rattle.disk_model.specs.Disk.{History, Faults, EachImage, IfTold}
 use Rattle.disk_model.specs.FaultCounts.{NoFault}
 use Rattle.attach_detach.specs.Prepared.{IsPrepared}

@@ -1,4 +1,4 @@
-use Rattle.std.proofs.Common.{◌≡◌, ◌∙◌, length, map, take_all, ap, arith}
+use Rattle.std.proofs.Common.{◌∙◌, map, take_all, ap, arith}
 use Rattle.std.specs.Prelude.{flat_map}
 use Rattle.std.proofs.lemmas.List.{length-map}
 use Rattle.store_checks.specs.declared.mailbox.CheckedBox.{CheckedBox}

@@ -1,4 +1,4 @@
-use Rattle.std.proofs.Common.{sym, ◌∙◌, ap, Some, None}
+use Rattle.std.proofs.Common.{sym, ◌∙◌, ap, None}
 use Rattle.std.specs.Option.{option_copied, option_map}
 use Rattle.box_index.specs.State.{BoxState}
 use Rattle.mail_ops.proofs.CountingLemmas.{found_there, not_listed_there}

@@ -1,4 +1,4 @@
-use Rattle.std.proofs.Common.{◌≡◌, ◌∙◌, ◌∷◌, ◌++◌, [], List, length, take_all, sym, ap, arith}
+use Rattle.std.proofs.Common.{◌∙◌, ◌∷◌, ◌++◌, [], List, length, take_all, sym, ap, arith}
 use Rattle.request_text.specs.declared.boxes.BoxRow.{BoxRow}
 use Rattle.model_meaning.specs.MapMeaning.{MapMeaning}
 use Rattle.store_core.specs.Value.{indexes_of}
