@@ -212,11 +212,11 @@ sound_asked {D} lane asked task row old history there begins few running s = rec
         all ∙ ap (λ (o : Option Reply). cond (is_some o) 0 1) none
 
 -- what its call makes of it is the world with the request
-pub world_set : {D : Type 0} → (lane : ℕ) (task : Task) (row now : LaneRow) (q : Queued) (old : WorldValue D) (replies : List (Option Reply)) (journal : List JournalEntry) (turns : List LaneTurn) → now ≡ row_asked q row → q ≡ record { place = length old.replies; task = task } → replies ≡ old.replies ++ None ∷ [] → journal ≡ old.journal → turns ≡ old.turns
-    → record old { rows = slice_set old.rows (lane - 1) now; replies = replies; journal = journal; turns = turns; turn_room = old.turn_room + 16 } ≡ world_asked lane task row old
-world_set lane task row now q old replies journal turns is asked told entries taken =
+pub world_set : {D : Type 0} → (lane : ℕ) (task : Task) (row now : LaneRow) (q : Queued) (old : WorldValue D) (replies : List (Option Reply)) (scripted : ℕ) (journal : List JournalEntry) (turns : List LaneTurn) → now ≡ row_asked q row → q ≡ record { place = length old.replies; task = task } → replies ≡ old.replies ++ None ∷ [] → scripted ≡ old.scripted → journal ≡ old.journal → turns ≡ old.turns
+    → record old { rows = slice_set old.rows (lane - 1) now; replies = replies; scripted = scripted; journal = journal; turns = turns; turn_room = old.turn_room + 16 } ≡ world_asked lane task row old
+world_set lane task row now q old replies scripted journal turns is asked told first entries taken =
     let p : now ≡ row_asked (record { place = length old.replies; task = task }) row = is ∙ ap (λ (one : Queued). row_asked one row) asked in
-    λ i. record old { rows = slice_set old.rows (lane - 1) (p i); replies = told i; journal = entries i; turns = taken i; turn_room = old.turn_room + 16 }
+    λ i. record old { rows = slice_set old.rows (lane - 1) (p i); replies = told i; scripted = first i; journal = entries i; turns = taken i; turn_room = old.turn_room + 16 }
 
 -- ---- the script grows
 

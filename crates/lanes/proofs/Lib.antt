@@ -5,6 +5,7 @@ pub mod EntryLemmas
 pub mod FindingLemmas
 pub mod GoingLemmas
 pub mod GrowLemmas
+pub mod KeptLemmas
 pub mod LeftLemmas
 pub mod OpeningLemmas
 pub mod OwnUseLemmas

@@ -63,10 +63,10 @@ lane_ready {D} row store history all task has = by_current row.current refl
 
 -- ---- the world
 
-pub fresh_sound : {D : Type 0} → (store : StoreValue D) (rows : List LaneRow) (replies : List (Option Reply)) (replied : List ℕ) (journal broken : List JournalEntry) (moment : ℕ) (turns : List LaneTurn) (turn_room : ℕ) (history : Option History)
+pub fresh_sound : {D : Type 0} → (store : StoreValue D) (rows : List LaneRow) (replies : List (Option Reply)) (scripted : ℕ) (replied : List ℕ) (journal broken : List JournalEntry) (moment : ℕ) (turns : List LaneTurn) (turn_room : ℕ) (history : Option History)
     → HasNoTask store → length rows ≤ 64 → AreFreshParts (record { rows = rows; requests = length replies }) → replies ≡ replicate (length replies) no_reply → length replied ≡ length rows → turn_room ≡ turns_for (length replies) (length rows) → moment < 2 ^ 64
-    → IsSoundWorld history (record { store = store; rows = rows; replies = replies; replied = replied; journal = journal; broken = broken; began = moment; turns = turns; turn_room = turn_room; finished = false })
-fresh_sound store rows replies replied journal broken moment turns turn_room history none few fresh unreplied many room small = record {
+    → IsSoundWorld history (record { store = store; rows = rows; replies = replies; scripted = scripted; replied = replied; journal = journal; broken = broken; began = moment; turns = turns; turn_room = turn_room; finished = false })
+fresh_sound store rows replies scripted replied journal broken moment turns turn_room history none few fresh unreplied many room small = record {
   few = few;
   waiting = λ k row there. behind_begin row (fresh.alone k row there) (fresh.begin k row there);
   accounts = λ runs. record {

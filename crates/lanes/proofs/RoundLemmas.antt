@@ -93,6 +93,7 @@ pub event_keeps : {D : Type 0} → (lane : ℕ) (old new : WorldValue D) (before
 event_keeps lane old new before after first second e = let keeps = e.works.goes.goes.keeps in record {
   replies = λ i given has. ap (λ (rs : List (Option Reply)). slice_get rs i) e.works.replies_are ∙ reply_stays (ended_by e.works.event.ended) e.works.event.place i old.replies given e.works.unanswered has;
   requests = ap (λ (rs : List (Option Reply)). length rs) e.works.replies_are ∙ replies_many (ended_by e.works.event.ended) e.works.event.place old.replies;
+  scripted = e.works.scripted_are;
   lanes = ap (λ (rows : List LaneRow). length rows) e.works.rows_are ∙ length-set old.rows (lane - 1) e.works.now;
   journal = first_added _ _ old.journal new.journal e.works.journal;
   broken = first_added _ _ old.broken new.broken e.works.broken;
@@ -114,6 +115,7 @@ keeps_then : {D : Type 0} → (old mid new : WorldValue D) (before between after
 keeps_then old mid new before between after first counted second a b = record {
   replies = λ i given has. b.replies i given (a.replies i given has);
   requests = b.requests ∙ a.requests;
+  scripted = b.scripted ∙ a.scripted;
   lanes = b.lanes ∙ a.lanes;
   journal = first_then old.journal mid.journal new.journal a.journal b.journal;
   broken = first_then old.broken mid.broken new.broken a.broken b.broken;
@@ -130,6 +132,7 @@ keeps_itself : {D : Type 0} → (world : WorldValue D) (history : Option History
 keeps_itself world history faults = record {
   replies = λ i given has. has;
   requests = refl;
+  scripted = refl;
   lanes = refl;
   journal = first_itself world.journal;
   broken = first_itself world.broken;
@@ -152,6 +155,7 @@ pub rounds_keep_world : {D : Type 0} → (lanes : List ℕ) (old new : WorldValu
 rounds_keep_world lanes old new before after first second g = let k = rounds_keep 0 lanes (as_finished old) new before after first second g in record {
   replies = k.replies;
   requests = k.requests;
+  scripted = k.scripted;
   lanes = k.lanes;
   journal = k.journal;
   broken = k.broken;

@@ -141,12 +141,12 @@ idle_between rows idle = all_idle rows (λ k row there.
 -- ---- what a world makes of an event
 
 -- from what its call does for it
-pub works_made : {D : Type 0} → (lane : ℕ) (old : WorldValue D) (store : StoreValue D) (replies : List (Option Reply)) (replied : List ℕ) (journal broken : List JournalEntry) (before after : Option History) (first second : Faults) (row now : LaneRow) (event : LaneEvent) (earlier later made broke : ℕ) (journal_room broken_room : Type 0)
-    → 1 ≤ lane → IsSoundWorld before old → slice_get old.rows (lane - 1) ≡ Some row → RowGoesOn row now event old.store store before after first second → replies ≡ replies_behind (ended_by event.ended) event.place old.replies → replied ≡ replied_behind (ended_by event.ended) (lane - 1) old.replied
+pub works_made : {D : Type 0} → (lane : ℕ) (old : WorldValue D) (store : StoreValue D) (replies : List (Option Reply)) (scripted : ℕ) (replied : List ℕ) (journal broken : List JournalEntry) (before after : Option History) (first second : Faults) (row now : LaneRow) (event : LaneEvent) (earlier later made broke : ℕ) (journal_room broken_room : Type 0)
+    → 1 ≤ lane → IsSoundWorld before old → slice_get old.rows (lane - 1) ≡ Some row → RowGoesOn row now event old.store store before after first second → replies ≡ replies_behind (ended_by event.ended) event.place old.replies → scripted ≡ old.scripted → replied ≡ replied_behind (ended_by event.ended) (lane - 1) old.replied
     → IsMoment before earlier → IsMoment after later → made ≡ later - old.began → broke ≡ earlier - old.began
     → AreAdded journal_room (entries_made event.did lane event.place made) old.journal journal → (length old.journal < 2 * length old.replies → journal_room) → AreAdded broken_room (entries_broken event.did lane event.place broke) old.broken broken → (length old.broken < 16 → broken_room)
-    → Works (lane - 1) old (record old { store = store; rows = slice_set old.rows (lane - 1) now; replies = replies; replied = replied; journal = journal; broken = broken }) before after first second
-works_made lane old store replies replied journal broken before after first second row now event earlier later made broke journal_room broken_room some sound there goes replies_are replied_are earlier_is later_is made_is broke_is kept kept_room lost lost_room = record {
+    → Works (lane - 1) old (record old { store = store; rows = slice_set old.rows (lane - 1) now; replies = replies; scripted = scripted; replied = replied; journal = journal; broken = broken }) before after first second
+works_made lane old store replies scripted replied journal broken before after first second row now event earlier later made broke journal_room broken_room some sound there goes replies_are scripted_are replied_are earlier_is later_is made_is broke_is kept kept_room lost lost_room = record {
   row = row;
   now = now;
   event = event;
@@ -155,6 +155,7 @@ works_made lane old store replies replied journal broken before after first seco
   rows_are = refl;
   unanswered = event_unanswered (lane - 1) row now event old.store store before after first second old goes before sound there;
   replies_are = replies_are;
+  scripted_are = scripted_are;
   replied_are = replied_are;
   earlier = earlier;
   earlier_is = earlier_is;

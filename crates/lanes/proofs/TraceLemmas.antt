@@ -34,6 +34,7 @@ other_turns k old new now turns finished before after first second w is = subst 
   rows_are = w.rows_are;
   unanswered = w.unanswered;
   replies_are = w.replies_are;
+  scripted_are = w.scripted_are;
   replied_are = w.replied_are;
   earlier = w.earlier;
   earlier_is = w.earlier_is;

@@ -1,4 +1,5 @@
 pub mod Asked
 pub mod Going
+pub mod Kept
 pub mod Rows
 pub mod Worlds

@@ -53,13 +53,14 @@ AreCounted script replies counts = (k count : ℕ) → slice_get counts k ≡ So
 
 -- ---- a world
 
--- The store, the lanes with their requests that aren't answered, the reply of each request, how many each lane has, the entries of the
--- steps made and of those that a failed append would have made, the disk's moment as the world began, the turns, for how many of them
--- there is room without taking memory, and whether the lanes were finished.
+-- The store, the lanes with their requests that aren't answered, the reply of each request as it was given, with how many requests the
+-- world began, how many replies each lane has, the entries of the steps made and of those that a failed append would have made, the disk's
+-- moment as the world began, the turns, for how many of them there is room without taking memory, and whether the lanes were finished.
 pub record WorldValue (D : Type 0) : Type 0 where
   pub store : StoreValue D
   pub rows : List LaneRow
   pub replies : List (Option Reply)
+  pub scripted : ℕ
   pub replied : List ℕ
   pub journal : List JournalEntry
   pub broken : List JournalEntry
@@ -69,11 +70,12 @@ pub record WorldValue (D : Type 0) : Type 0 where
   pub finished : Bool
 
 -- the world of these
-abbrev pub world_value : {D : Type 0} → StoreValue D → List LaneRow → List (Option Reply) → List ℕ → List JournalEntry → List JournalEntry → ℕ → List LaneTurn → ℕ → Bool → WorldValue D
-world_value store rows replies replied journal broken began turns turn_room finished = record {
+abbrev pub world_value : {D : Type 0} → StoreValue D → List LaneRow → List (Option Reply) → ℕ → List ℕ → List JournalEntry → List JournalEntry → ℕ → List LaneTurn → ℕ → Bool → WorldValue D
+world_value store rows replies scripted replied journal broken began turns turn_room finished = record {
   store = store;
   rows = rows;
   replies = replies;
+  scripted = scripted;
   replied = replied;
   journal = journal;
   broken = broken;
@@ -174,6 +176,7 @@ world_begun store parts moment = record {
   store = store;
   rows = parts.rows;
   replies = replicate parts.requests None;
+  scripted = parts.requests;
   replied = replicate (length parts.rows) 0;
   journal = [];
   broken = [];
@@ -206,20 +209,20 @@ pub record IsSoundWorld {D : Type 0} (history : Option History) (world : WorldVa
 
 -- Each list of a world has the length of its vector, and there is room for two entries of each request, for 16 broken steps, and for
 -- the turns.
-pub record HasRoomOf (lanes : Vec LaneRow) (replies : Vec (Option Reply)) (replied : Vec ℕ) (journal broken : Vec JournalEntry) (turns : Vec LaneTurn) (turn_room : ℕ) : Type 0 where
+pub record HasRoomOf (lanes : Vec LaneRow) (replies : List (Option Reply)) (replied : Vec ℕ) (journal broken : Vec JournalEntry) (turns : Vec LaneTurn) (turn_room : ℕ) : Type 0 where
   pub lanes_are : vec_len lanes ≡ length lanes.items
-  pub replies_are : vec_len replies ≡ length replies.items
   pub replied_are : vec_len replied ≡ length replied.items
   pub journal_is : vec_len journal ≡ length journal.items
-  pub journal_room : 2 * length replies.items ≤ vec_capacity journal
+  pub journal_room : 2 * length replies ≤ vec_capacity journal
   pub broken_is : vec_len broken ≡ length broken.items
   pub broken_room : 16 ≤ vec_capacity broken
   pub turns_are : vec_len turns ≡ length turns.items
   pub turns_room : turn_room ≤ vec_capacity turns
 
 -- Nothing has come of its requests: no reply, entry or turn.
-pub record HaveNoneYet (requests lanes : ℕ) (replies : Vec (Option Reply)) (replied : Vec ℕ) (journal broken : Vec JournalEntry) (turns : Vec LaneTurn) (turn_room : ℕ) : Type 0 where
-  pub unreplied : replies.items ≡ replicate requests None
+pub record HaveNoneYet (requests lanes : ℕ) (replies : List (Option Reply)) (scripted : ℕ) (replied : Vec ℕ) (journal broken : Vec JournalEntry) (turns : Vec LaneTurn) (turn_room : ℕ) : Type 0 where
+  pub unreplied : replies ≡ replicate requests None
+  pub scripted_are : scripted ≡ requests
   pub none_replied : replied.items ≡ replicate lanes 0
   pub no_entries : journal.items ≡ []
   pub none_broken : broken.items ≡ []
@@ -259,6 +262,7 @@ pub record Works {D : Type 0} (k : ℕ) (old new : WorldValue D) (before after :
   pub rows_are : new.rows ≡ slice_set old.rows k now
   pub unanswered : slice_get old.replies event.place ≡ Some None
   pub replies_are : new.replies ≡ replies_behind (ended_by event.ended) event.place old.replies
+  pub scripted_are : new.scripted ≡ old.scripted
   pub replied_are : new.replied ≡ replied_behind (ended_by event.ended) k old.replied
   pub earlier : ℕ
   pub earlier_is : IsMoment before earlier
@@ -322,6 +326,7 @@ IsServedOn lanes old new before after first second =
 pub record KeepsWorld {D : Type 0} (old new : WorldValue D) (before after : Option History) (first second : Faults) : Type 0 where
   pub replies : (i : ℕ) (given : Reply) → HasReply old.replies i given → HasReply new.replies i given
   pub requests : length new.replies ≡ length old.replies
+  pub scripted : new.scripted ≡ old.scripted
   pub lanes : length new.rows ≡ length old.rows
   pub journal : IsFirstPart old.journal new.journal
   pub broken : IsFirstPart old.broken new.broken

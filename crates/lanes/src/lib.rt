@@ -13,5 +13,6 @@ pub use world::{World, WorldRefused, world_of};
 mod lane;
 mod laws;
 mod parts;
+mod replies;
 mod turn;
 mod world;

@@ -6,10 +6,11 @@ ghost use Rattle.lane_tasks.specs.Tasks.{BeginsTask};
 ghost use Rattle.lanes.specs.Worlds.{AreGiven, AreOfLanes, ArePartsOf, AreRowsFrom, HasItsMessage, empty_row};
 
 use crate::lane::{Lane, Queued};
+use crate::replies::Replies;
 use crate::turn::Turn;
 use attach_detach::Prepared;
 use lane_tasks::Task;
-use mdbox_base::{JournalEntry, NoMemory, Reply, Request, Script, Seq};
+use mdbox_base::{JournalEntry, NoMemory, Request, Script, Seq};
 use std::alloc::Global;
 use std::marker::Model;
 
@@ -24,7 +25,7 @@ const BROKEN_ROOM: usize = 16;
 pub struct WorldParts {
     pub(crate) lanes: Vec<Lane>,
     /// None for each request.
-    pub(crate) replies: Vec<Option<Reply>>,
+    pub(crate) replies: Replies,
     /// 0 for each lane.
     pub(crate) replied: Vec<u64>,
     pub(crate) journal: Vec<JournalEntry>,
@@ -39,9 +40,9 @@ impl Model for WorldParts {
 
     ghost Value = { PartsValue };
 
-    ghost view = { λ parts. record { rows = parts.lanes.items; requests = length parts.replies.items } };
+    ghost view = { λ parts. record { rows = parts.lanes.items; requests = length parts.replies.given } };
 
-    ghost invariant = { λ parts. AreFreshParts (record { rows = parts.lanes.items; requests = length parts.replies.items }) × HasRoomOf parts.lanes parts.replies parts.replied parts.journal parts.broken parts.turns parts.turn_room × HaveNoneYet (length parts.replies.items) (length parts.lanes.items) parts.replies parts.replied parts.journal parts.broken parts.turns parts.turn_room };
+    ghost invariant = { λ parts. AreFreshParts (record { rows = parts.lanes.items; requests = length parts.replies.given }) × HasRoomOf parts.lanes parts.replies.given parts.replied parts.journal parts.broken parts.turns parts.turn_room × HaveNoneYet (length parts.replies.given) (length parts.lanes.items) parts.replies.given parts.replies.first parts.replied parts.journal parts.broken parts.turns parts.turn_room };
 }
 
 impl WorldParts {
@@ -59,7 +60,7 @@ impl WorldParts {
         let requests = script.requests.length();
         let turns = 16 * requests + script.lanes as usize;
         Ok(WorldParts {
-            replies: no_replies(alloc, requests)?,
+            replies: Replies::none(alloc, requests)?,
             replied: vec![in alloc; 0; script.lanes as usize]?,
             journal: Vec::with_capacity(alloc, 2 * requests)?,
             broken: Vec::with_capacity(alloc, BROKEN_ROOM)?,
@@ -68,17 +69,6 @@ impl WorldParts {
             lanes: lanes_for(alloc, script, prepared)?,
         })
     }
-}
-
-/// No reply for each of so many requests.
-fn no_replies(alloc: Global, requests: usize) -> Result<Vec<Option<Reply>>, NoMemory>
-    ensures { IfOk result (λ replies. (replies.items ≡ replicate requests None) × (vec_len replies ≡ requests)) }
-{
-    let mut replies = Vec::with_capacity(alloc, requests)?;
-    for _ in 0..requests {
-        replies.push(None)?;
-    }
-    Ok(replies)
 }
 
 /// So many lanes without requests.

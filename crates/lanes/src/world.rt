@@ -5,12 +5,14 @@ ghost use Rattle.serving.specs.Serving.{AreIdle};
 ghost use Rattle.task_claims.specs.Claims.{HasNoTask};
 ghost use Rattle.task_steps.specs.Step.{ended_by};
 ghost use Rattle.lanes.specs.Asked.{GoesWith, IsRequestAsked, events_of};
+ghost use Rattle.lanes.specs.Kept.{AreKeptOf};
 ghost use Rattle.lanes.specs.Rows.{lanes_of};
 ghost use Rattle.lanes.specs.Worlds.{AreAdded, AreGiven, AreIdleBetween, AreOfLanes, ArePartsOf, GoesOnBy, HasItsMessage, IsFreshWorld, IsIdleLane, IsLaneEvent, IsNextBusy, IsSoundWorld, PartsValue, Works, entries_broken, entries_made, replied_behind, turn_of, world_left};
 ghost use Rattle.lanes.specs.declared.turn.Turned.TheVariants as turned;
 
 use crate::lane::{Lane, LaneEvent, Queued};
 use crate::parts::{WorldParts, task_for};
+use crate::replies::Replies;
 use crate::turn::{Turn, Turned};
 use attach_detach::Prepared;
 use disk_model::Disk;
@@ -26,7 +28,7 @@ pub struct World<D: Disk> {
     store: Store<D>,
     lanes: Vec<Lane>,
     /// The reply of each request, in script order.
-    replies: Vec<Option<Reply>>,
+    replies: Replies,
     /// How many replies each lane has.
     replied: Vec<u64>,
     journal: Vec<JournalEntry>,
@@ -45,9 +47,9 @@ impl<D: Disk> Model for World<D> {
 
     ghost Value = { WorldValue D };
 
-    ghost view = { λ w. world_value w.store w.lanes.items w.replies.items w.replied.items w.journal.items w.broken.items w.began w.turns.items w.turn_room w.finished };
+    ghost view = { λ w. world_value w.store w.lanes.items w.replies.given w.replies.first w.replied.items w.journal.items w.broken.items w.began w.turns.items w.turn_room w.finished };
 
-    ghost invariant = { λ w. IsSoundWorld (D.history w.store.disk) (world_value w.store w.lanes.items w.replies.items w.replied.items w.journal.items w.broken.items w.began w.turns.items w.turn_room w.finished) × HasRoomOf w.lanes w.replies w.replied w.journal w.broken w.turns w.turn_room };
+    ghost invariant = { λ w. IsSoundWorld (D.history w.store.disk) (world_value w.store w.lanes.items w.replies.given w.replies.first w.replied.items w.journal.items w.broken.items w.began w.turns.items w.turn_room w.finished) × HasRoomOf w.lanes w.replies.given w.replied w.journal w.broken w.turns w.turn_room };
 }
 
 /// There is no memory for a world. The store is as it was.
@@ -140,7 +142,8 @@ impl<D: Disk> World<D> {
         self.finished = true;
     }
 
-    /// Adds a request behind the others of its lane, and answers its place. Without memory it is let go, and the world stays.
+    /// Adds a request behind the others of its lane, and answers its place. Of the last reply, unless it is one of the script with which the
+    /// world began, octets and rows are let go. Without memory the request is let go, and the world stays.
     pub fn ask(
         &mut self,
         lane: u32,
@@ -155,7 +158,7 @@ impl<D: Disk> World<D> {
         ensures err { OnErr result (self.new ≡ self.old) }
     {
         let place = self.replies.len();
-        reserve_to(&mut self.replies, place + 1)?;
+        self.replies.reserve()?;
         reserve_to(&mut self.journal, 2 * (place + 1))?;
         reserve_to(&mut self.turns, self.turn_room as usize + TURNS_EACH)?;
         let queued = Queued {
@@ -163,7 +166,7 @@ impl<D: Disk> World<D> {
             task: task_for(request, prepared),
         };
         self.lanes[(lane - 1) as usize].push_back(queued)?;
-        self.replies.push_reserved(None);
+        self.replies.ask(self.store.alloc());
         self.turn_room += TURNS_EACH as u64;
         Ok(place as u32)
     }
@@ -232,9 +235,9 @@ impl<D: Disk> World<D> {
         self.journal.as_slice()
     }
 
-    /// The reply of each request, in script order. None for one that isn't answered.
+    /// What is kept of the reply of each request, in script order. None for one that isn't answered.
     pub fn replies(&self) -> &[Option<Reply>]
-        ensures { result.now ≡ self.now.replies }
+        ensures { AreKeptOf self.now.scripted self.now.replies result.now }
     {
         self.replies.as_slice()
     }
@@ -261,7 +264,7 @@ impl<D: Disk> World<D> {
         self.turns.as_slice()
     }
 
-    /// The store, the replies, the journal and the broken steps.
+    /// The store, what is kept of the replies, the journal and the broken steps.
     pub fn into_parts(
         self,
     ) -> (
@@ -270,7 +273,8 @@ impl<D: Disk> World<D> {
         Seq<JournalEntry>,
         Seq<JournalEntry>,
     )
-        ensures { result ≡ (self.store, self.replies, self.journal, self.broken) }
+        ensures kept { (result ≡ (self.store, result.1, self.journal, self.broken)) × AreKeptOf self.scripted self.replies result.1 }
+        ensures whole { self.scripted ≡ length self.replies → result ≡ (self.store, self.replies, self.journal, self.broken) }
     {
         let World {
             store,
@@ -284,7 +288,12 @@ impl<D: Disk> World<D> {
             turn_room: _turn_room,
             finished: _finished,
         } = self;
-        (store, Seq::of(replies), Seq::of(journal), Seq::of(broken))
+        (
+            store,
+            replies.into_kept(),
+            Seq::of(journal),
+            Seq::of(broken),
+        )
     }
 }
 
@@ -366,12 +375,12 @@ fn keep_count(counts: &mut Vec<u64>, place: usize, ended: &Progress)
 }
 
 /// Puts the reply of a request in its place, if it is answered.
-fn keep_reply(replies: &mut Vec<Option<Reply>>, place: usize, ended: Progress)
-    requires { place < vec_len replies.old }
-    ensures replies { replies.new.items ≡ replies_behind (ended_by ended) place replies.old.items }
-    ensures same { vec_len replies.new ≡ vec_len replies.old }
+fn keep_reply(replies: &mut Replies, place: usize, ended: Progress)
+    requires { place < length replies.old.given }
+    ensures replies { replies.new.given ≡ replies_behind (ended_by ended) place replies.old.given }
+    ensures same { replies.new.first ≡ replies.old.first }
 {
     if let Progress::Done(reply) = ended {
-        replies[place] = Some(reply);
+        replies.put(place, reply);
     }
 }

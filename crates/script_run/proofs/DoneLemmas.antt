@@ -1,7 +1,7 @@
 -- A script is done, from the opening of the store to the end of the last lane.
 use Rattle.std.specs.Prelude.{◌≡◌, ◌≢◌, ◌<◌, ◌≤◌, ◌||◌, ◌⊎◌, ℕ, zero, suc, Bool, true, false, List, [], ◌∷◌, All, Contains, length, map, replicate, slice_get, Option, Some, None, if◌then◌else◌}
 use Rattle.std.proofs.Common.{refl, sym, ◌∙◌, ap, subst, arith, inl, inr}
-use Rattle.std.proofs.lemmas.List.{length-map}
+use Rattle.std.proofs.lemmas.List.{length-map, length-replicate}
 use Rattle.std.proofs.lemmas.Option.{slice_get_within}
 use Rattle.disk_model.specs.Disk.{Faults, History, IsIdle, IsMoment, told_calls}
 use Rattle.disk_model.proofs.IdleLemmas.{idle-begins}
@@ -36,7 +36,7 @@ use Rattle.mail_fetch.specs.Task.{seen_in}
 use Rattle.lanes.specs.Going.{AreFreshRows, FindsMessages, IsGoing}
 use Rattle.lanes.specs.Rows.{LaneRow, lane_value, lanes_of}
 use Rattle.attach_detach.specs.declared.message.Prepared.{Prepared}
-use Rattle.lanes.specs.Worlds.{AreGiven, AreOfLanes, ArePartsOf, GoesOnBy, IsFreshWorld, IsWorldOf, PartsValue, WorldValue, and_events}
+use Rattle.lanes.specs.Worlds.{AreGiven, AreOfLanes, ArePartsOf, GoesOnBy, IsFreshWorld, IsWorldOf, KeepsWorld, PartsValue, WorldValue, and_events}
 use Rattle.lanes.proofs.TraceLemmas.{as_finished, world_finished}
 use Rattle.lane_tasks.specs.Clause.{AnswersReads, DoomsNone, OnlyReads, ReadsNoOctets}
 use Rattle.task_steps.proofs.UnmovedLemmas.{mail_still}
@@ -628,6 +628,11 @@ run_done {D} history faults script lanes prepared parts old s world ended turns 
 -- what a world is taken apart into
 abbrev pub EndedParts : Type 0 → Type 0
 EndedParts D = StoreValue D × List (Option Reply) × List JournalEntry × List JournalEntry
+
+-- It has no requests but those with which it began.
+pub all_scripted : {D : Type 0} → (parts : PartsValue) (store : StoreValue D) (world ended : WorldValue D) (history before after : Option History) (first second : Faults) → IsFreshWorld store parts history world → KeepsWorld world ended before after first second → ended.scripted ≡ length ended.replies
+all_scripted parts store world ended history before after first second fresh kept =
+    kept.scripted ∙ (ap (λ (w : WorldValue _). w.scripted) fresh.2 ∙ (sym (length-replicate parts.requests None) ∙ sym (kept.requests ∙ ap (λ (w : WorldValue _). length w.replies) fresh.2)))
 
 -- It is handed out so.
 pub handed_out : {D : Type 0} → (history : D → Option History) (faults : D → Faults) (script : Requests) (old : Option History) (first began : Faults) (ended : WorldValue D) (parts : EndedParts D) → parts ≡ (ended.store, ended.replies, ended.journal, ended.broken) → first ≡ began

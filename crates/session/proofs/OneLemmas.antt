@@ -1,13 +1,14 @@
 -- One request of a session, and one more.
-use Rattle.std.specs.Prelude.{◌≢◌, ◌≤◌, ◌<◌, ◌+◌, All, Bool, if◌then◌else◌, length, take, slice_index_or}
+use Rattle.std.specs.Prelude.{◌≢◌, ◌≤◌, ◌<◌, ◌+◌, ◌⊎◌, ◌||◌, All, Bool, if◌then◌else◌, length, option_map, take, slice_get, slice_index_or}
 use Rattle.std.specs.List.{list_any}
-use Rattle.std.proofs.Common.{◌≡◌, ◌++◌, ℕ, true, false, List, [], ◌∷◌, Option, Some, None, refl, sym, ◌∙◌, ap, subst, arith, inl}
+use Rattle.std.proofs.Common.{◌≡◌, ◌++◌, ℕ, zero, suc, true, false, List, [], ◌∷◌, Option, Some, None, refl, sym, ◌∙◌, ap, subst, arith, inl, inr}
 use Rattle.std.proofs.lemmas.List.{append-nil, length-append}
 use Rattle.std.proofs.lemmas.List.Elements.{All-weaker}
 use Rattle.std.proofs.lemmas.Option.{get_or_from_slice_get}
 use Rattle.disk_model.specs.Disk.{Faults, History}
 use Rattle.mdbox_base.specs.Streams.{Appended, IsAtEnd, Taken}
 use Rattle.mdbox_base.specs.declared.replies.Reply.{Reply}
+use Rattle.mdbox_base.specs.declared.replies.Reply.TheVariants as reply
 use Rattle.mdbox_base.specs.declared.requests.Request.{Request}
 use Rattle.mdbox_base.specs.declared.script.JournalEntry.{JournalEntry}
 use Rattle.model_lists.specs.Lists.{Lists}
@@ -16,6 +17,7 @@ use Rattle.list_machine.specs.Run.{Run, RunEvent}
 use Rattle.journal.specs.Journal.{Broken, HasReply, JournalStep, Requests, left_by}
 use Rattle.task_steps.specs.Step.{Seen}
 use Rattle.lanes.specs.Asked.{HasNoIdleTurn, asked_in}
+use Rattle.lanes.specs.Kept.{AreKeptOf, IsKeptOf, emptied}
 use Rattle.lanes.specs.Worlds.{IsWorldOf, WorldValue, and_events}
 use Rattle.lanes.specs.Rows.{lanes_of}
 use Rattle.serving.specs.Serving.{AreIdle}
@@ -48,24 +50,24 @@ journal_longer old new m = let l : length new.journal ≡ length old.journal + l
 
 -- ---- its reply
 
-there_is : (replies now : List (Option Reply)) (place n : ℕ) (one : Reply) (result : Option Reply) → HasReply replies n one → place ≡ n → now ≡ replies → result ≡ slice_index_or now place result → result ≡ Some one
+there_is : (replies now : List (Option Reply)) (place n : ℕ) (one : Reply) (result : Option Reply) → HasReply replies n one → place ≡ n → slice_get now n ≡ slice_get replies n → result ≡ slice_index_or now place result → result ≡ Some one
 there_is replies now place n one result has is same read =
-    read ∙ (ap (λ (rs : List (Option Reply)). slice_index_or rs place result) same ∙ (ap (λ (k : ℕ). slice_index_or replies k result) is ∙ get_or_from_slice_get replies n (Some one) result has))
+    read ∙ (ap (λ (k : ℕ). slice_index_or now k result) is ∙ get_or_from_slice_get now n (Some one) result (same ∙ has))
 
 -- a request that was done has its reply where it is looked for
-pub no_lack : {D : Type 0} → (old new : WorldValue D) (place : ℕ) (now : List (Option Reply)) (result : Option Reply) → OneMore old new → HaveReplies new.replies → place ≡ length old.replies → now ≡ new.replies → result ≡ slice_index_or now place result → result ≡ None → ⊥
+pub no_lack : {D : Type 0} → (old new : WorldValue D) (place : ℕ) (now : List (Option Reply)) (result : Option Reply) → OneMore old new → HaveReplies new.replies → place ≡ length old.replies → AreKeptOf new.scripted new.replies now → result ≡ slice_index_or now place result → result ≡ None → ⊥
 no_lack old new place now result m each is same read none =
     let many = m.many in
     let one = each (length old.replies) (omega (arith, many)) in
-    let k : None ≡ Some one.0 = sym none ∙ there_is new.replies now place (length old.replies) one.0 result one.1 is same read in
+    let k : None ≡ Some one.0 = sym none ∙ there_is new.replies now place (length old.replies) one.0 result one.1 is (same.whole (length old.replies) (inr (omega (arith, many)))) read in
     cc k
 
 pub one_answered : {D : Type 0} → (history : D → Option History) (faults : D → Faults) (asked : ℕ × Request) (old new : WorldValue D) (place : ℕ) (now : List (Option Reply)) (result : Option Reply) (given : Reply) → IsWaiting old → IsUnderWay history faults asked old new → AreIdle (lanes_of new.rows) → HaveReplies new.replies
-    → place ≡ length old.replies → now ≡ new.replies → result ≡ slice_index_or now place result → result ≡ Some given → IsAnswered history faults asked old new given
+    → place ≡ length old.replies → AreKeptOf new.scripted new.replies now → result ≡ slice_index_or now place result → result ≡ Some given → IsAnswered history faults asked old new given
 one_answered history faults asked old new place now result given waits u idle each is same read some =
     let many = (one_more history faults asked old new waits.replied u).many in
     let one = each (length old.replies) (omega (arith, many)) in
-    let both : Some given ≡ Some one.0 = sym some ∙ there_is new.replies now place (length old.replies) one.0 result one.1 is same read in
+    let both : Some given ≡ Some one.0 = sym some ∙ there_is new.replies now place (length old.replies) one.0 result one.1 is (same.whole (length old.replies) (inr (omega (arith, many)))) read in
     let it : given ≡ one.0 = cc both in
     record { begun = u; idle = idle; replied = each; reply = subst (λ (r : Reply). HasReply new.replies (length old.replies) r) (sym it) one.1 }
 
@@ -95,6 +97,51 @@ by_tests P true b c w x y z = w
 by_tests P false true c w x y z = x
 by_tests P false false true w x y z = y
 by_tests P false false false w x y z = z
+
+any_kept : (p : Option Reply → Bool) → ((one : Option Reply) → p (option_map emptied one) ≡ p one) → (given kept : List (Option Reply)) → length kept ≡ length given
+    → ((i : ℕ) (one : Option Reply) → slice_get given i ≡ Some one → (now : Option Reply) × (slice_get kept i ≡ Some now) × IsKeptOf one now) → list_any p kept ≡ list_any p given
+any_kept p same [] [] long each = refl
+any_kept p same [] (y ∷ kept) long each = absurd (let e : suc (length kept) ≡ zero = long in cc e)
+any_kept p same (x ∷ given) [] long each = absurd (let e : zero ≡ suc (length given) = long in cc e)
+any_kept p same (x ∷ given) (y ∷ kept) long each =
+    let first = each zero x refl in
+    let e : Some y ≡ Some first.0 = first.1 in
+    let is : y ≡ first.0 = cc e in
+    let head : p y ≡ p x = ap p is ∙ by_case first.0 first.2 in
+    let tail = any_kept p same given kept (omega (arith, long)) (λ i one there. each (suc i) one there) in
+    ap (λ (b : Bool). b || list_any p kept) head ∙ ap (λ (b : Bool). p x || b) tail
+  where
+    by_case : (now : Option Reply) → IsKeptOf x now → p now ≡ p x
+    by_case now (inl is) = ap p is
+    by_case now (inr less) = ap p less ∙ same x
+
+disk_no_kept : (one : Option Reply) → is_disk_no (option_map emptied one) ≡ is_disk_no one
+disk_no_kept None = refl
+disk_no_kept (Some (reply.Fetched octets)) = refl
+disk_no_kept (Some (reply.Listed rows)) = refl
+disk_no_kept (Some other) = refl
+
+lack_kept : (one : Option Reply) → is_lack (option_map emptied one) ≡ is_lack one
+lack_kept None = refl
+lack_kept (Some (reply.Fetched octets)) = refl
+lack_kept (Some (reply.Listed rows)) = refl
+lack_kept (Some other) = refl
+
+no_kept : (one : Option Reply) → is_no (option_map emptied one) ≡ is_no one
+no_kept None = refl
+no_kept (Some (reply.Fetched octets)) = refl
+no_kept (Some (reply.Listed rows)) = refl
+no_kept (Some other) = refl
+
+-- Replies say the same of the end as they are kept.
+pub outcome_kept : (first : ℕ) (given kept : List (Option Reply)) → AreKeptOf first given kept → replies_outcome kept ≡ replies_outcome given
+outcome_kept first given kept are =
+    let disk = any_kept is_disk_no disk_no_kept given kept are.many are.each in
+    let lack = any_kept is_lack lack_kept given kept are.many are.each in
+    let no = any_kept is_no no_kept given kept are.many are.each in
+    ap (λ (b : Bool). if b then outcome.DiskFault else (if list_any is_lack kept then outcome.NoMemory else (if list_any is_no kept then outcome.No else outcome.Done))) disk
+    ∙ (ap (λ (b : Bool). if list_any is_disk_no given then outcome.DiskFault else (if b then outcome.NoMemory else (if list_any is_no kept then outcome.No else outcome.Done))) lack
+    ∙ ap (λ (b : Bool). if list_any is_disk_no given then outcome.DiskFault else (if list_any is_lack given then outcome.NoMemory else (if b then outcome.No else outcome.Done))) no)
 
 -- At the input's end a session ends as its replies say.
 pub finds_end : {D : Type 0} → (old : WorldValue D) (left rest : Option (List ℕ)) (at : Extent) → IsAtEnd left → rest ≡ left → FindsNone old left rest at (replies_outcome old.replies)

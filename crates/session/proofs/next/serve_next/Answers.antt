@@ -1,6 +1,6 @@
 use Rattle.std.proofs.Common.{refl, ◌∙◌, ap, inl, inr}
 use Rattle.session.specs.OneRequest.{extent_then}
-use Rattle.session.proofs.OneLemmas.{finds_end}
+use Rattle.session.proofs.OneLemmas.{finds_end, outcome_kept}
 use Rattle.session.proofs.next.serve_next.Goals as goal
 
 pub returns-in-Ok-clause-ok : goal.returns-in-Ok-clause-ok
@@ -17,7 +17,7 @@ returns-in-Err-clause-err g c =
 pub returns-in-Ok-None-clause-err : goal.returns-in-Ok-None-clause-err
 returns-in-Ok-None-clause-err g c =
     let taken = rw c.in-Ok-None.field-0-is at c.in-Ok-None.ensures.taken in
-    inl ((refl, refl), rw (c.outcome_of_replies.ensures, c.replies.ensures) (finds_end c.args.world.now _ _ c.args.at taken.0 taken.1))
+    inl ((refl, refl), rw (c.outcome_of_replies.ensures, outcome_kept c.args.world.now.scripted c.args.world.now.replies c.replies.result.now c.replies.ensures) (finds_end c.args.world.now _ _ c.args.at taken.0 taken.1))
 
 pub returns-in-Err-Bad-clause-err : goal.returns-in-Err-Bad-clause-err
 returns-in-Err-Bad-clause-err g c =

@@ -69,9 +69,14 @@ returns-in-Ok-open_store-clause-done g c =
       closed_well = o.closed_well;
     } in
     let kept = c.worlds_go_on.ensures.keeps c.finish.ensures.goes.0 gone ended _ _ _ _ c.finish.ensures.goes.1 in
-    let later = subst (λ (p : EndedParts _). IsStore (history p.0.disk) p.0) c.into_parts-store.ensures c.facts-in-Ok-open_store.ensures.store in
+    let later = subst (λ (p : EndedParts _). IsStore (history p.0.disk) p.0) c.into_parts-store.ensures.kept.0 c.facts-in-Ok-open_store.ensures.store in
     let end = session_finished history faults (history c.args.disk) c.in-Ok.parts s c.of-world.result gone ended c.finish.ensures.goes.0 opened c.listings_are_shown.ensures.logs c.in-Ok.ensures
     (no_task (history c.args.disk) (history s.disk) s opened c.facts.ensures.ids o.made) c.lanes_begin.ensures c.worlds_begin.ensures c.lanes_end.ensures c.of-world.ensures c.finish.ensures.goes.1 kept
     (c.idle_worlds_have_replied.ensures ended _ c.known_facts.ensures c.finish.ensures.idle) c.finish.ensures.idle later c.known_facts.ensures.short in
     let done = gone_done history faults (history c.args.disk) c.of-world.result gone ended _ _ _ _ end told_in_order c.serve_all-ended.result c.serve_all-ended.ensures.gone in
-    session_over history faults (history c.args.disk) ended _ _ _ _ _ _ _ c.serve_all-ended.result (c.into_disk.ensures ∙ ap (λ (p : EndedParts _). p.0.disk) c.into_parts-store.ensures) (ap (λ (w : _). faults w.store.disk) c.of-world.ensures.2 ∙ o.unfailed (λ f. f)) done
+    session_over history faults (history c.args.disk) ended _ _ _ _ _ _ _ c.serve_all-ended.result (c.into_disk.ensures ∙ ap (λ (p : EndedParts _). p.0.disk) c.into_parts-store.ensures.kept.0) (ap (λ (w : _). faults w.store.disk) c.of-world.ensures.2 ∙ o.unfailed (λ f. f)) done
+
+pub returns-in-Err-clause-refused : goal.returns-in-Err-clause-refused
+returns-in-Err-clause-refused g c =
+    let o = c.in-Err.ensures in
+    record { cause = o.refused; idle = o.idle; untouched = o.untouched; stays = o.mail_stays; closed_well = o.closed_well; moments = o.any_moment; settled_again = o.settled_again; carried = o.carried; fault = o.fault; unfailed = o.unfailed }

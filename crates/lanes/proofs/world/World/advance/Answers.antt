@@ -21,7 +21,7 @@ returns-then-idle-clause-idle g c = λ is.
     let none = c.is_idle-idle.ensures.idle c.if-idle.true in
     let turns_are = pushed ∙ ap (λ (b : Bool). c.self.inside.turns.items ++ turn_of c.args.lane b ∷ []) c.if-idle.true in
     idle_turn c.args.lane
-    (world_value c.self.inside.store c.self.inside.lanes.items c.self.inside.replies.items c.self.inside.replied.items c.self.inside.journal.items c.self.inside.broken.items c.self.inside.began c.self.inside.turns.items c.self.inside.turn_room c.self.inside.finished)
+    (world_value c.self.inside.store c.self.inside.lanes.items c.self.inside.replies.given c.self.inside.replies.first c.self.inside.replied.items c.self.inside.journal.items c.self.inside.broken.items c.self.inside.began c.self.inside.turns.items c.self.inside.turn_room c.self.inside.finished)
     c.args.self.now c.push.new.self.items c.self.view_is turns_are (c.index.result.now, there, none.0, none.1)
 
 pub work-requires-clause-busy : goal.work-requires-clause-busy
@@ -38,5 +38,5 @@ returns-clause-worked g c = λ is.
     c.push.ensures.items ∙ ap (λ (b : Bool). if b then c.self.inside.turns.items ++ turn_of c.args.lane c.is_idle-idle.result ∷ [] else c.self.inside.turns.items) ok in
     let turns_are = pushed ∙ ap (λ (b : Bool). c.self.inside.turns.items ++ turn_of c.args.lane b ∷ []) c.if-idle.false in
     lane_turn g.D.Disk.history g.D.Disk.faults c.args.lane
-    (world_value c.self.inside.store c.self.inside.lanes.items c.self.inside.replies.items c.self.inside.replied.items c.self.inside.journal.items c.self.inside.broken.items c.self.inside.began c.self.inside.turns.items c.self.inside.turn_room c.self.inside.finished)
+    (world_value c.self.inside.store c.self.inside.lanes.items c.self.inside.replies.given c.self.inside.replies.first c.self.inside.replied.items c.self.inside.journal.items c.self.inside.broken.items c.self.inside.began c.self.inside.turns.items c.self.inside.turn_room c.self.inside.finished)
     c.args.self.now c.work.new.self c.push.new.self.items c.self.view_is turns_are c.requires.lane.0 c.self.invariant.0 c.work.ensures.works

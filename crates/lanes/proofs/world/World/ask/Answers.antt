@@ -18,30 +18,26 @@ invariant_of-self-2 g c =
     let there : slice_get c.self.inside.lanes.items (c.args.lane - 1) ≡ Some c.index_mut.result.now =
     slice_get-get_or c.self.inside.lanes.items (c.args.lane - 1) c.index_mut.result.now (omega (arith, low, high)) ∙ ap (λ (r : LaneRow). Some r) (sym c.index_mut.ensures.value) in
     let room = c.self.invariant.1 in
-    let many = room.replies_are in
-    let place : c.len-place.result ≡ length c.self.inside.replies.items = c.len-place.ensures ∙ many in
-    let told : c.push_reserved.new.self.items ≡ c.self.inside.replies.items ++ None ∷ [] = c.push_reserved.ensures.items ∙ ap (λ (rs : List (Option Reply)). rs ++ None ∷ []) c.in_ok-reserve_to.ensures.same.0 in
-    let long : length c.push_reserved.new.self.items ≡ length c.self.inside.replies.items + 1 = ap (λ (rs : List (Option Reply)). length rs) told ∙ length-append c.self.inside.replies.items (None ∷ []) in
-    let grown = c.push_reserved.ensures.len in
-    let kept = c.in_ok-reserve_to.ensures.same.1 in
-    let journal_fits = c.in_ok-reserve_to-2.ensures.ok in
-    let turns_fit = c.in_ok-reserve_to-3.ensures.ok in (
+    let place : c.len-place.result ≡ length c.self.inside.replies.given = c.len-place.ensures in
+    let told : c.ask.new.self.given ≡ c.self.inside.replies.given ++ None ∷ [] = c.ask.ensures.0 ∙ ap (λ (rs : List (Option Reply)). rs ++ None ∷ []) c.in_ok-reserve.ensures.same.0 in
+    let long : length c.ask.new.self.given ≡ length c.self.inside.replies.given + 1 = ap (λ (rs : List (Option Reply)). length rs) told ∙ length-append c.self.inside.replies.given (None ∷ []) in
+    let journal_fits = c.in_ok-reserve_to.ensures.ok in
+    let turns_fit = c.in_ok-reserve_to-2.ensures.ok in (
       subst (λ (w : WorldValue _). IsSoundWorld (g.D.Disk.history c.self.inside.store.disk) w)
           (sym (world_set c.args.lane c.task_for.result c.index_mut.result.now c.push_back.new.self (record { place = c.len-place.result; task = c.task_for.result })
-          (world_value c.self.inside.store c.self.inside.lanes.items c.self.inside.replies.items c.self.inside.replied.items c.self.inside.journal.items c.self.inside.broken.items c.self.inside.began c.self.inside.turns.items c.self.inside.turn_room c.self.inside.finished)
-          c.push_reserved.new.self.items c.reserve_to-2.new.items.items c.reserve_to-3.new.items.items c.in_ok-push_back.ensures.ok (ap (λ (n : ℕ). record { place = n; task = c.task_for.result }) place) told c.in_ok-reserve_to-2.ensures.same.0 c.in_ok-reserve_to-3.ensures.same.0))
+          (world_value c.self.inside.store c.self.inside.lanes.items c.self.inside.replies.given c.self.inside.replies.first c.self.inside.replied.items c.self.inside.journal.items c.self.inside.broken.items c.self.inside.began c.self.inside.turns.items c.self.inside.turn_room c.self.inside.finished)
+          c.ask.new.self.given c.ask.new.self.first c.reserve_to.new.items.items c.reserve_to-2.new.items.items c.in_ok-push_back.ensures.ok (ap (λ (n : ℕ). record { place = n; task = c.task_for.result }) place) told (c.ask.ensures.1 ∙ c.in_ok-reserve.ensures.same.1) c.in_ok-reserve_to.ensures.same.0 c.in_ok-reserve_to-2.ensures.same.0))
           (sound_asked c.args.lane c.args.request c.task_for.result c.index_mut.result.now
-          (world_value c.self.inside.store c.self.inside.lanes.items c.self.inside.replies.items c.self.inside.replied.items c.self.inside.journal.items c.self.inside.broken.items c.self.inside.began c.self.inside.turns.items c.self.inside.turn_room c.self.inside.finished)
+          (world_value c.self.inside.store c.self.inside.lanes.items c.self.inside.replies.given c.self.inside.replies.first c.self.inside.replied.items c.self.inside.journal.items c.self.inside.broken.items c.self.inside.began c.self.inside.turns.items c.self.inside.turn_room c.self.inside.finished)
           (g.D.Disk.history c.self.inside.store.disk) there c.task_for.ensures few running c.self.invariant.0),
       record {
         lanes_are = room.lanes_are ∙ sym (length-set c.self.inside.lanes.items (c.args.lane - 1) c.push_back.new.self);
-        replies_are = omega (arith, grown, kept, many, long);
         replied_are = room.replied_are;
-        journal_is = c.in_ok-reserve_to-2.ensures.same.1 ∙ (room.journal_is ∙ sym (ap length c.in_ok-reserve_to-2.ensures.same.0));
+        journal_is = c.in_ok-reserve_to.ensures.same.1 ∙ (room.journal_is ∙ sym (ap length c.in_ok-reserve_to.ensures.same.0));
         journal_room = omega (arith, long, place, journal_fits);
         broken_is = room.broken_is;
         broken_room = room.broken_room;
-        turns_are = c.in_ok-reserve_to-3.ensures.same.1 ∙ (room.turns_are ∙ sym (ap length c.in_ok-reserve_to-3.ensures.same.0));
+        turns_are = c.in_ok-reserve_to-2.ensures.same.1 ∙ (room.turns_are ∙ sym (ap length c.in_ok-reserve_to-2.ensures.same.0));
         turns_room = omega (arith, turns_fit);
       },
     )
@@ -52,8 +48,8 @@ returns-clause-ok g c =
     let high = subst (λ (w : WorldValue _). c.args.lane ≤ length w.rows) (sym c.self.view_is) c.requires.lane.1 in
     let there : slice_get c.self.inside.lanes.items (c.args.lane - 1) ≡ Some c.index_mut.result.now =
     slice_get-get_or c.self.inside.lanes.items (c.args.lane - 1) c.index_mut.result.now (omega (arith, low, high)) ∙ ap (λ (r : LaneRow). Some r) (sym c.index_mut.ensures.value) in
-    let place : c.len-place.result ≡ length c.self.inside.replies.items = c.len-place.ensures ∙ c.self.invariant.1.replies_are in
-    let told : c.push_reserved.new.self.items ≡ c.self.inside.replies.items ++ None ∷ [] = c.push_reserved.ensures.items ∙ ap (λ (rs : List (Option Reply)). rs ++ None ∷ []) c.in_ok-reserve_to.ensures.same.0 in (
+    let place : c.len-place.result ≡ length c.self.inside.replies.given = c.len-place.ensures in
+    let told : c.ask.new.self.given ≡ c.self.inside.replies.given ++ None ∷ [] = c.ask.ensures.0 ∙ ap (λ (rs : List (Option Reply)). rs ++ None ∷ []) c.in_ok-reserve.ensures.same.0 in (
       place ∙ ap (λ (w : WorldValue _). length w.replies) c.self.view_is,
       record {
         is_lane = low;
@@ -63,8 +59,8 @@ returns-clause-ok g c =
         begins = c.task_for.ensures;
         new_is =
             world_set c.args.lane c.task_for.result c.index_mut.result.now c.push_back.new.self (record { place = c.len-place.result; task = c.task_for.result })
-            (world_value c.self.inside.store c.self.inside.lanes.items c.self.inside.replies.items c.self.inside.replied.items c.self.inside.journal.items c.self.inside.broken.items c.self.inside.began c.self.inside.turns.items c.self.inside.turn_room c.self.inside.finished)
-            c.push_reserved.new.self.items c.reserve_to-2.new.items.items c.reserve_to-3.new.items.items c.in_ok-push_back.ensures.ok (ap (λ (n : ℕ). record { place = n; task = c.task_for.result }) place) told c.in_ok-reserve_to-2.ensures.same.0 c.in_ok-reserve_to-3.ensures.same.0
+            (world_value c.self.inside.store c.self.inside.lanes.items c.self.inside.replies.given c.self.inside.replies.first c.self.inside.replied.items c.self.inside.journal.items c.self.inside.broken.items c.self.inside.began c.self.inside.turns.items c.self.inside.turn_room c.self.inside.finished)
+            c.ask.new.self.given c.ask.new.self.first c.reserve_to.new.items.items c.reserve_to-2.new.items.items c.in_ok-push_back.ensures.ok (ap (λ (n : ℕ). record { place = n; task = c.task_for.result }) place) told (c.ask.ensures.1 ∙ c.in_ok-reserve.ensures.same.1) c.in_ok-reserve_to.ensures.same.0 c.in_ok-reserve_to-2.ensures.same.0
             ∙ ap (world_asked c.args.lane c.task_for.result c.index_mut.result.now) c.self.view_is;
       },
     )

@@ -48,8 +48,7 @@ keep_reply-requires g c =
     let there : slice_get c.self.inside.lanes.items (c.args.lane - 1) ≡ Some c.index_mut.result.now =
     slice_get-get_or c.self.inside.lanes.items (c.args.lane - 1) c.index_mut.result.now (omega (arith, low, high)) ∙ ap (λ (r : LaneRow). Some r) (sym c.index_mut.ensures.value) in
     let inside = place_within (c.args.lane - 1) c.index_mut.result.now c.advance.new.self c.in-Some.event _ _ _ _ _ _ _ c.in-Some.ensures.some _ c.self.invariant.0 there in
-    let many = c.self.invariant.1.replies_are in
-    omega (arith, inside, many)
+    inside
 
 pub returns-clause-works : goal.returns-clause-works
 returns-clause-works g c =
@@ -63,9 +62,9 @@ returns-clause-works g c =
     let broken_is = room.broken_is in
     let broken_room = room.broken_room in
     works_from g.D.Disk.history g.D.Disk.faults (c.args.lane - 1) _ _ _ c.self.view_is
-    (works_made c.args.lane (world_value c.self.inside.store c.self.inside.lanes.items c.self.inside.replies.items c.self.inside.replied.items c.self.inside.journal.items c.self.inside.broken.items c.self.inside.began c.self.inside.turns.items c.self.inside.turn_room c.self.inside.finished)
-    c.advance.new.store c.keep_reply.new.replies.items c.keep_count.new.counts.items c.keep_step.new.journal.items c.keep_broken.new.broken.items _ _ _ _ c.index_mut.result.now c.advance.new.self c.in-Some.event
-    c.moment-earlier.result c.moment-later.result c.saturating_sub-made.result c.saturating_sub-broken.result _ _ low c.self.invariant.0 there c.in-Some.ensures.some c.keep_reply.ensures.replies c.keep_count.ensures.counts
+    (works_made c.args.lane (world_value c.self.inside.store c.self.inside.lanes.items c.self.inside.replies.given c.self.inside.replies.first c.self.inside.replied.items c.self.inside.journal.items c.self.inside.broken.items c.self.inside.began c.self.inside.turns.items c.self.inside.turn_room c.self.inside.finished)
+    c.advance.new.store c.keep_reply.new.replies.given c.keep_reply.new.replies.first c.keep_count.new.counts.items c.keep_step.new.journal.items c.keep_broken.new.broken.items _ _ _ _ c.index_mut.result.now c.advance.new.self c.in-Some.event
+    c.moment-earlier.result c.moment-later.result c.saturating_sub-made.result c.saturating_sub-broken.result _ _ low c.self.invariant.0 there c.in-Some.ensures.some c.keep_reply.ensures.replies c.keep_reply.ensures.same c.keep_count.ensures.counts
     c.moment-earlier.ensures c.moment-later.ensures c.saturating_sub-made.ensures c.saturating_sub-broken.ensures c.keep_step.ensures.added (λ short. omega (arith, short, journal_is, journal_room)) c.keep_broken.ensures.added (λ short. omega (arith, short, broken_is, broken_room)))
 
 pub returns-clause-left : goal.returns-clause-left
@@ -79,9 +78,9 @@ returns-clause-left g c =
     let journal_room = room.journal_room in
     let broken_is = room.broken_is in
     let broken_room = room.broken_room in
-    let w = works_made c.args.lane (world_value c.self.inside.store c.self.inside.lanes.items c.self.inside.replies.items c.self.inside.replied.items c.self.inside.journal.items c.self.inside.broken.items c.self.inside.began c.self.inside.turns.items c.self.inside.turn_room c.self.inside.finished)
-    c.advance.new.store c.keep_reply.new.replies.items c.keep_count.new.counts.items c.keep_step.new.journal.items c.keep_broken.new.broken.items _ _ _ _ c.index_mut.result.now c.advance.new.self c.in-Some.event
-    c.moment-earlier.result c.moment-later.result c.saturating_sub-made.result c.saturating_sub-broken.result _ _ low c.self.invariant.0 there c.in-Some.ensures.some c.keep_reply.ensures.replies c.keep_count.ensures.counts
+    let w = works_made c.args.lane (world_value c.self.inside.store c.self.inside.lanes.items c.self.inside.replies.given c.self.inside.replies.first c.self.inside.replied.items c.self.inside.journal.items c.self.inside.broken.items c.self.inside.began c.self.inside.turns.items c.self.inside.turn_room c.self.inside.finished)
+    c.advance.new.store c.keep_reply.new.replies.given c.keep_reply.new.replies.first c.keep_count.new.counts.items c.keep_step.new.journal.items c.keep_broken.new.broken.items _ _ _ _ c.index_mut.result.now c.advance.new.self c.in-Some.event
+    c.moment-earlier.result c.moment-later.result c.saturating_sub-made.result c.saturating_sub-broken.result _ _ low c.self.invariant.0 there c.in-Some.ensures.some c.keep_reply.ensures.replies c.keep_reply.ensures.same c.keep_count.ensures.counts
     c.moment-earlier.ensures c.moment-later.ensures c.saturating_sub-made.ensures c.saturating_sub-broken.ensures c.keep_step.ensures.added (λ short. omega (arith, short, journal_is, journal_room)) c.keep_broken.ensures.added (λ short. omega (arith, short, broken_is, broken_room)) in
     left_from (c.args.lane - 1) _ c.args.self.now _ _ _ _ _ c.self.view_is w c.self.invariant.0
 
@@ -96,18 +95,17 @@ invariant_of-self-2 g c =
     let journal_room = room.journal_room in
     let broken_is = room.broken_is in
     let broken_room = room.broken_room in
-    let w = works_made c.args.lane (world_value c.self.inside.store c.self.inside.lanes.items c.self.inside.replies.items c.self.inside.replied.items c.self.inside.journal.items c.self.inside.broken.items c.self.inside.began c.self.inside.turns.items c.self.inside.turn_room c.self.inside.finished)
-    c.advance.new.store c.keep_reply.new.replies.items c.keep_count.new.counts.items c.keep_step.new.journal.items c.keep_broken.new.broken.items _ _ _ _ c.index_mut.result.now c.advance.new.self c.in-Some.event
-    c.moment-earlier.result c.moment-later.result c.saturating_sub-made.result c.saturating_sub-broken.result _ _ low c.self.invariant.0 there c.in-Some.ensures.some c.keep_reply.ensures.replies c.keep_count.ensures.counts
+    let w = works_made c.args.lane (world_value c.self.inside.store c.self.inside.lanes.items c.self.inside.replies.given c.self.inside.replies.first c.self.inside.replied.items c.self.inside.journal.items c.self.inside.broken.items c.self.inside.began c.self.inside.turns.items c.self.inside.turn_room c.self.inside.finished)
+    c.advance.new.store c.keep_reply.new.replies.given c.keep_reply.new.replies.first c.keep_count.new.counts.items c.keep_step.new.journal.items c.keep_broken.new.broken.items _ _ _ _ c.index_mut.result.now c.advance.new.self c.in-Some.event
+    c.moment-earlier.result c.moment-later.result c.saturating_sub-made.result c.saturating_sub-broken.result _ _ low c.self.invariant.0 there c.in-Some.ensures.some c.keep_reply.ensures.replies c.keep_reply.ensures.same c.keep_count.ensures.counts
     c.moment-earlier.ensures c.moment-later.ensures c.saturating_sub-made.ensures c.saturating_sub-broken.ensures c.keep_step.ensures.added (λ short. omega (arith, short, journal_is, journal_room)) c.keep_broken.ensures.added (λ short. omega (arith, short, broken_is, broken_room)) in
-    let replies : length c.keep_reply.new.replies.items ≡ length c.self.inside.replies.items = ap (λ (rs : List (Option Reply)). length rs) c.keep_reply.ensures.replies ∙ replies_many (ended_by c.in-Some.event.ended) c.in-Some.event.place c.self.inside.replies.items in
+    let replies : length c.keep_reply.new.replies.given ≡ length c.self.inside.replies.given = ap (λ (rs : List (Option Reply)). length rs) c.keep_reply.ensures.replies ∙ replies_many (ended_by c.in-Some.event.ended) c.in-Some.event.place c.self.inside.replies.given in
     let replied : length c.keep_count.new.counts.items ≡ length c.self.inside.replied.items = ap (λ (ns : List ℕ). length ns) c.keep_count.ensures.counts ∙ replied_many (ended_by c.in-Some.event.ended) (c.args.lane - 1) c.self.inside.replied.items in
     let journal_grows = c.keep_step.ensures.room.0 in
     let broken_grows = c.keep_broken.ensures.room.0 in (
       sound_on (c.args.lane - 1) _ _ _ _ _ _ w c.self.invariant.0,
       record {
         lanes_are = room.lanes_are ∙ sym (length-set c.self.inside.lanes.items (c.args.lane - 1) c.advance.new.self);
-        replies_are = c.keep_reply.ensures.same ∙ (room.replies_are ∙ sym replies);
         replied_are = c.keep_count.ensures.same ∙ (room.replied_are ∙ sym replied);
         journal_is = c.keep_step.ensures.room.1 room.journal_is;
         journal_room = omega (arith, replies, journal_grows, journal_room);
