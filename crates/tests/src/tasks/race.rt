@@ -49,6 +49,9 @@ impl AnyTask {
             AnyTask::Expunge(task) => task.step(store),
         }
     }
+
+    /// Lets go of it.
+    fn end(self) {}
 }
 
 /// Two tasks and the store that they work on.
@@ -99,11 +102,9 @@ impl<D: Disk> Race<D> {
 
     /// Ends the race.
     pub fn into_disk(self) -> D {
-        let Race {
-            one: _one,
-            two: _two,
-            store,
-        } = self;
+        let Race { one, two, store } = self;
+        one.end();
+        two.end();
         store.into_disk()
     }
 }
