@@ -1,0 +1,6 @@
+mod DealLemmas
+mod JoinLemmas
+mod KeepLemmas
+mod SumLemmas
+mod ToldLemmas
+mod TraceLemmas
