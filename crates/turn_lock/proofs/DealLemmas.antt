@@ -12,7 +12,7 @@ use Rattle.turn_lock.specs.LockSteps.{one_part_less, one_part, with_parts}
 use Rattle.turn_lock.specs.Seats.{IsFreeOf, IsUnder, KnowsAt, Knows, seen_at_place, seen_by, parts_with}
 use Rattle.turn_lock.specs.declared.lock.TurnSeat.{TurnSeat}
 use Rattle.std.proofs.lemmas.List.Sums.{sum_by_push}
-use Rattle.turn_lock.proofs.KeepLemmas.{splitting_keeps, opening_keeps}
+use Rattle.turn_lock.proofs.SeatLemmas.{splitting_keeps, opening_keeps}
 
 module _ {W C : Type 0} (tells : Tells W C) (key : W) where
   pub splits_keep : (id : ℕ) (m : Me (Option W) (Place C)) (k : Known C) → m ≡ (Free k, []) → 0 < k.parts → Splits (IsInTurns tells key) id m.0 (one_part_less m.0) (one_part m.0)

@@ -14,7 +14,7 @@ use Rattle.turn_lock.specs.LockSteps.{joined, knows_both}
 use Rattle.turn_lock.specs.Seats.{IsFreeOf, IsUnder, KnowsAt, Knows, seen_at_place, seen_by, parts_with}
 use Rattle.turn_lock.specs.declared.lock.TurnSeat.{TurnSeat}
 use Rattle.std.proofs.lemmas.List.Sums.{sum_by_push}
-use Rattle.turn_lock.proofs.KeepLemmas.{joining_keeps, closing_finds}
+use Rattle.turn_lock.proofs.SeatLemmas.{joining_keeps, closing_finds}
 
 pub none_left : {X : Type 0} → (xs : List X) (r : Option X) (n m : ℕ) (P : X → Type 0) → n ≡ length xs → r ≡ None → MatchOption r ((n ≡ 0) × (m ≡ 0)) P → xs ≡ []
 none_left [] r n m P len is h = refl

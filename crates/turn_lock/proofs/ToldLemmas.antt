@@ -1,12 +1,13 @@
 -- What the caller learns from each step.
-use Rattle.std.proofs.Common.{◌≡◌, ◌≢◌, ℕ, ◌%◌, List, [], ◌∷◌, sym, ap, ◌∙◌, subst, Option, Some, None, Bool, ⊎_elim, append-nil}
+use Rattle.std.proofs.Common.{◌≡◌, ◌≢◌, ℕ, List, [], ◌∷◌, sym, ap, ◌∙◌, subst, Option, Some, None, Bool}
 use Rattle.atomic_table.specs.Table.{Me, rest}
 use Rattle.turn_lock.specs.declared.place.Known.{Known}
 use Rattle.turn_lock.specs.declared.place.Place.{Place}
 use Rattle.turn_lock.specs.declared.place.Place.TheVariants.{Free, Waits, HasTurn}
-use Rattle.turn_lock.specs.LockRule.{Tells, Suits, GoesOnFrom, StartsWith}
+use Rattle.turn_lock.specs.LockRule.{Tells, Suits, GoesOnFrom, StartsWith, in_word}
 use Rattle.turn_lock.specs.LockSteps.{having_seen, drawn_from, looked_from, ended_from}
 use Rattle.turn_lock.specs.Seats.{KnowsAt, Knows, IsOneTurnAtMost, found_at_place}
+use Rattle.turn_lock.proofs.TraceLemmas.{one_turn_starts_with}
 
 first_in : {W : Type 0} → List (ℕ × Option W) → Option W
 first_in [] = None
@@ -20,7 +21,7 @@ pub some_same : {W : Type 0} → (v w : W) → Some v ≡ Some w → v ≡ w
 unfolding value_or
 some_same v w e = ap (value_or v) e
 
-pub drew : {S C : Type 0} → (m m' : Me S (Place C)) (n : ℕ) (k : Known C) → m ≡ (Free k, []) → drawn_from m.1 n m.0 m' → (t : ℕ) × (n ≡ t % 18446744073709551616) × (m' ≡ (Waits k t, []))
+pub drew : {S C : Type 0} → (m m' : Me S (Place C)) (n : ℕ) (k : Known C) → m ≡ (Free k, []) → drawn_from m.1 n m.0 m' → (t : ℕ) × (n ≡ in_word t) × (m' ≡ (Waits k t, []))
 drew {S} {C} m m' n k e play = subst (λ (x : Me S (Place C)). drawn_from x.1 n x.0 m') e play
 
 module _ {W C : Type 0} (trace : W → List ℕ) where
@@ -35,10 +36,10 @@ module _ {W C : Type 0} (tells : Tells W C) where
   abbrev Sat : Type 0
   Sat = Me (Option W) (Place C)
 
-  pub missed : (m m' : Sat) (n t : ℕ) (k : Known C) → m ≡ (Waits k t, []) → looked_from tells m.1 n m.0 m' → n ≢ t % 18446744073709551616 → m' ≡ m
+  pub missed : (m m' : Sat) (n t : ℕ) (k : Known C) → m ≡ (Waits k t, []) → looked_from tells m.1 n m.0 m' → n ≢ in_word t → m' ≡ m
   missed m m' n t k e play ne = (let p : looked_from tells [] n (Waits k t) m' = subst (λ (x : Sat). looked_from tells x.1 n x.0 m') e play in p.0 ne) ∙ sym e
 
-  pub hit : (m m' : Sat) (n t : ℕ) (k : Known C) → m ≡ (Waits k t, []) → looked_from tells m.1 n m.0 m' → n ≡ t % 18446744073709551616
+  pub hit : (m m' : Sat) (n t : ℕ) (k : Known C) → m ≡ (Waits k t, []) → looked_from tells m.1 n m.0 m' → n ≡ in_word t
       → (w : W) × (m' ≡ (HasTurn k t (tells.trace w), (0, Some w) ∷ [])) × Suits tells w k × GoesOnFrom (tells.trace w) k
   hit m m' n t k e play is = let p : looked_from tells [] n (Waits k t) m' = subst (λ (x : Sat). looked_from tells x.1 n x.0 m') e play in p.1 is
 
@@ -54,8 +55,7 @@ module _ {W C : Type 0} where
   suits m k t found charter finished e h = subst (λ (x : Me (Option W) (Place C)). KnowsAt charter finished x.0) e h
 
   pub longer : (m : Me (Option W) (Place C)) (k : Known C) (t : ℕ) (found trace : List ℕ) → m ≡ (HasTurn k t found, (0, None) ∷ []) → IsOneTurnAtMost (found_at_place m.0) trace → StartsWith trace found
-  longer m k t found trace e h = let h' : IsOneTurnAtMost found trace = subst (λ (x : Me (Option W) (Place C)). IsOneTurnAtMost (found_at_place x.0) trace) e h in
-      ⊎_elim (λ same. ([], same ∙ sym (append-nil found))) (λ more. (more.0 ∷ [], more.1)) h'
+  longer m k t found trace e h = one_turn_starts_with found trace (subst (λ (x : Me (Option W) (Place C)). IsOneTurnAtMost (found_at_place x.0) trace) e h)
 
 pub some_or_none : {W : Type 0} → (w : W) → Some w ≡ None → ⊥
 some_or_none w e = cc

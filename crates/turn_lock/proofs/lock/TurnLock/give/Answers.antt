@@ -1,5 +1,5 @@
 use Rattle.std.proofs.Common.{rules, ◌∙◌}
-use Rattle.turn_lock.proofs.KeepLemmas.{calls_keep, ends_keep}
+use Rattle.turn_lock.proofs.TurnLemmas.{calls_keep, ends_keep}
 use Rattle.turn_lock.proofs.ToldLemmas.{put, ended, longer, suits}
 use Rattle.turn_lock.proofs.lock.TurnLock.give.Goals as goal
 

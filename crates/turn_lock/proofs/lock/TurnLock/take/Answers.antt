@@ -1,6 +1,6 @@
 use Rattle.std.proofs.Common.{rules, ◌∙◌, sym, ap, Some, ◌∷◌}
 use Rattle.turn_lock.specs.Seats.{found_at_place}
-use Rattle.turn_lock.proofs.KeepLemmas.{draws_keep, looks_keep}
+use Rattle.turn_lock.proofs.TurnLemmas.{draws_keep, looks_keep}
 use Rattle.turn_lock.proofs.ToldLemmas.{drew, hit, took}
 use Rattle.atomic_table.specs.Table.{rest}
 use Rattle.turn_lock.proofs.lock.TurnLock.take.Goals as goal
