@@ -79,7 +79,7 @@ pub last_alone : {D : Type 0} → (lane room : ℕ) (t : Turned) (old new : Hand
 last_alone {D} lane room t old new is same a = ⊎_elim
     (λ e. mark_is_last (turn_of lane true) room old.world.turns new.world.turns (subst (λ (x : Turned). IsAdvanced lane x old new) e a))
     (λ e. inr (let h : IsAdvanced lane NoMemory old new = subst (λ (x : Turned). IsAdvanced lane x old new) e a in
-      subst (λ (l : List LaneTurn). room ≤ length l) (sym h.0) (subst (λ (n : ℕ). n ≤ length old.world.turns) same h.1))) is
+    subst (λ (l : List LaneTurn). room ≤ length l) (sym h.0) (subst (λ (n : ℕ). n ≤ length old.world.turns) same h.1))) is
 
 pub one_lane_more : (at room : ℕ) (a b : List LaneTurn) → Grown a b → ((lane : ℕ) → 0 < lane → lane ≤ at → HasMarkOrIsFull (turn_of lane true) room a) → HasMarkOrIsFull (turn_of (at + 1) true) room b
     → (lane : ℕ) → 0 < lane → lane ≤ at + 1 → HasMarkOrIsFull (turn_of lane true) room b

@@ -71,7 +71,10 @@ impl<D: Disk> Handed<D> {
     pub(crate) fn finish(self) -> World<D>
         ensures { HasRun D.history D.faults self.first self.world.turns result }
     {
-        let Handed { mut world, first: _ } = self;
+        let Handed {
+            mut world,
+            first: _,
+        } = self;
         world.finish();
         world
     }
