@@ -23,8 +23,8 @@ use Rattle.lane_tasks.specs.declared.task.Task.{Task}
 use Rattle.lane_tasks.specs.declared.task.Task.TheVariants as task
 use Rattle.lane_tasks.proofs.StepLemmas.{ran_before}
 use Rattle.lanes.specs.Rows.{LaneRow, after_event, next_in_turn}
-use Rattle.lanes.specs.Worlds.{GoesInRounds, IsLaneEvent, WorldValue, queued_in}
-use Rattle.script_run.specs.OpenScript.{GoesOnInOrder}
+use Rattle.lanes.specs.Turned.{GoesOnInOrder}
+use Rattle.lanes.specs.Worlds.{IsLaneEvent, WorldValue, queued_in}
 use Rattle.lanes.specs.declared.lane.Queued.{Queued}
 
 -- ---- a fact that each event keeps
@@ -39,11 +39,6 @@ stays_over {D} Fact keep [] old new before after first second g is =
     subst (λ (w : WorldValue D). Fact w after second) (sym g.0) (subst (λ (h : Option History). Fact old h second) (sym g.1) (subst (λ (f : Faults). Fact old before f) (sym g.2) is))
 stays_over {D} Fact keep (lane ∷ lanes) old new before after first second g is =
     stays_over Fact keep lanes g.0 new g.1 after g.2 second g.5 (keep lane old g.0 before g.1 first g.2 g.3 is)
-
--- Events in rounds are so, too.
-pub rounds_in_order : {D : Type 0} → (last : ℕ) (lanes : List ℕ) (old new : WorldValue D) (before after : Option History) (first second : Faults) → GoesInRounds last lanes old new before after first second → GoesOnInOrder lanes old new before after first second
-rounds_in_order last [] old new before after first second g = g
-rounds_in_order last (lane ∷ lanes) old new before after first second g = (g.0, g.1, g.2, g.4, g.5, rounds_in_order lane lanes g.0 new g.1 after g.2 second g.6)
 
 -- ---- the tasks of all requests
 

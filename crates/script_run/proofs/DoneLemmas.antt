@@ -2,7 +2,6 @@
 use Rattle.std.specs.Prelude.{◌≡◌, ◌≢◌, ◌<◌, ◌≤◌, ◌||◌, ◌⊎◌, ℕ, zero, suc, Bool, true, false, List, [], ◌∷◌, All, Contains, length, map, replicate, slice_get, Option, Some, None, if◌then◌else◌}
 use Rattle.std.proofs.Common.{refl, sym, ◌∙◌, ap, subst, arith, inl, inr}
 use Rattle.std.proofs.lemmas.List.{length-map, length-replicate}
-use Rattle.std.proofs.lemmas.List.Elements.{All-nil}
 use Rattle.std.proofs.lemmas.Option.{slice_get_within}
 use Rattle.disk_model.specs.Disk.{Faults, History, IfTold, IsIdle, IsMoment, told_calls}
 use Rattle.disk_model.proofs.IdleLemmas.{idle-begins}
@@ -23,7 +22,6 @@ use Rattle.journal.specs.Events.{Around, is_fault}
 use Rattle.journal.specs.Makes.{AreNextEvents, HasCome}
 use Rattle.journal.specs.Journal.{Broken, HasReply, IsLegal, JournalStep, Requests, left_by, no_broken}
 use Rattle.serving.specs.Serving.{AreIdle, HaveLanes, unreplied}
-use Rattle.serving.specs.Turns.{IsTrueTurn}
 use Rattle.sis_store.specs.Instances.{AreInstances}
 use Rattle.store_core.proofs.InstanceFirmLemmas.{named_all_firm}
 use Rattle.store_core.specs.Running.{IsStore}
@@ -38,7 +36,9 @@ use Rattle.task_steps.proofs.OneEventLemmas.{not_true}
 use Rattle.mail_fetch.specs.Task.{seen_in}
 use Rattle.lanes.specs.Going.{AreFreshRows, FindsMessages, IsGoing}
 use Rattle.lanes.specs.Rows.{LaneRow, lane_value, lanes_of}
-use Rattle.lanes.specs.Worlds.{AreOfLanes, ArePartsOf, IsFreshWorld, IsLaneEvent, IsWorldOf, KeepsWorld, PartsValue, WorldValue, and_events}
+use Rattle.lanes.specs.Turned.{GoesOnInOrder, WentOn, untraced}
+use Rattle.lanes.specs.Worlds.{AreOfLanes, ArePartsOf, IsFreshWorld, IsWorldOf, KeepsWorld, PartsValue, WorldValue, and_events}
+use Rattle.lanes.proofs.TurnedLemmas.{world_untraced}
 use Rattle.lane_tasks.specs.Clause.{AnswersReads, DoomsNone, OnlyReads, ReadsNoOctets}
 use Rattle.task_steps.proofs.UnmovedLemmas.{mail_still}
 use Rattle.lane_tasks.specs.Tasks.{BeginsTask}
@@ -51,13 +51,13 @@ use Rattle.script_run.specs.Done.{IsScriptDone, LeavesStore, MayBeKept, MayBeSer
 use Rattle.script_run.specs.Faults.{FaultsByReplies, HasReadFault}
 use Rattle.script_run.specs.LeftOpen.{IsServedOpen}
 use Rattle.script_run.specs.Opening.{AreSafeFor, LogsShowLists}
-use Rattle.script_run.specs.OpenScript.{GoesOnInOrder, IsScriptOpened, IsStoreOpened, WentOn, untraced}
+use Rattle.script_run.specs.OpenScript.{IsScriptOpened, IsStoreOpened}
 use Rattle.script_run.specs.Script.{HasStopped, IsRefusedAtOnce, ServesScript, has_change, has_delivery, has_fetch, has_mail_read, has_purge, is_fetch, is_purge}
 use Rattle.script_run.proofs.EndLemmas.{all_given, script_served, serves_from, unharmed}
 use Rattle.script_run.proofs.MailStaysLemmas.{opening_keeps, run_keeps, stays_from}
 use Rattle.script_run.proofs.ChangeTaskLemmas.{StandsDelete, StandsRename, begun_delete, begun_rename, keeps_delete, keeps_rename}
 use Rattle.script_run.proofs.CopyTaskLemmas.{IsCopyTold, StandsCopy, begun_copy, keeps_copy}
-use Rattle.script_run.proofs.ChainLemmas.{StaysOver, HasCounted, HasDoomedNone, HasOnlyRead, HasReadAsTold, HasReadNoOctets, HasWrittenNone, WritesNoMail, calm_on, counted_first, counted_on, reads_on, stays_over, syncs_first, unread_on, unwritten_on}
+use Rattle.script_run.proofs.ChainLemmas.{HasCounted, HasDoomedNone, HasOnlyRead, HasReadAsTold, HasReadNoOctets, HasWrittenNone, WritesNoMail, calm_on, counted_first, counted_on, reads_on, stays_over, syncs_first, unread_on, unwritten_on}
 use Rattle.script_run.proofs.SinceLemmas.{MayBeRefused, ServedSince, answers_first, begun_first, changes_none, dooms_first, fresh_tasks, reads_first, reads_unpurged, served_since, unpurged, unread_first, unwritten_first}
 use Rattle.script_run.specs.Purged.{IsPurgedAlone, IsRefusedRoomAlone, LacksRoom}
 use Rattle.script_run.specs.Resynced.{IsResyncedAlone}
@@ -341,16 +341,6 @@ pub record ScriptRan {D : Type 0} (script : Requests) (old mid new : Option Hist
   pub later : IsStore new ended.store
   pub law : LanesEnd D
 
--- a world is of its script and its run without its turns, too
-world_untraced : {D : Type 0} → (start : Lists) (script : Requests) (run : Run) (steps : List JournalStep) (failed : Broken) (began : Seen) (history : Option History) (faults : Faults) (world : WorldValue D) → IsWorldOf start script run steps failed began history faults world → IsWorldOf start script run steps failed began history faults (untraced world)
-world_untraced start script run steps failed began history faults world is = record {
-  going = is.going;
-  entries = is.entries;
-  broken = is.broken;
-  counts = is.counts;
-  trace = record { worked = (map (λ (event : RunEvent). event.lane) run.events, refl); idle = All-nil (IsTrueTurn (lanes_of world.rows)) };
-}
-
 -- the world of the run with all events
 ended_world : {D : Type 0} → (script : Requests) (old mid new : Option History) (first last : Faults) (s : StoreValue D) (world ended : WorldValue D) → (r : ScriptRan script old mid new first last s world ended) → (start : Lists) → LogsShowLists s.map (indexes_of s.boxes) start → MayRead script start old
     → ServedSince start script (beginning s.map r.opened.store.entries) [] (before_opening (seen_in s mid first) old) (untraced world) ended mid new last
@@ -626,26 +616,18 @@ script_ran script lanes parts old mid new first last s world ended turns o reads
 
 -- ---- from a script that was opened
 
--- the law of what an event keeps of a world
-abbrev pub EventKeeps : (D : Type 0) → Type 0
-EventKeeps D = (lane : ℕ) (old new : WorldValue D) (before after : Option History) (first second : Faults) → IsLaneEvent lane old new before after first second → KeepsWorld old new before after first second
+-- the law of what events keep of a world, in whatever order
+abbrev pub OrderKeeps : (D : Type 0) → Type 0
+OrderKeeps D = (lanes : List ℕ) (old new : WorldValue D) (before after : Option History) (first second : Faults) → GoesOnInOrder lanes old new before after first second → KeepsWorld old new before after first second
 
--- It began at the same moment, and has as many requests.
-abbrev HasSameRequests : {D : Type 0} → WorldValue D → WorldValue D → Type 0
-HasSameRequests first world = (world.began ≡ first.began) × (length world.replies ≡ length first.replies) × (world.scripted ≡ first.scripted)
-
-same_on : {D : Type 0} → (origin : WorldValue D) → EventKeeps D → StaysOver {D = D} (λ world history faults. HasSameRequests origin world)
-same_on origin law lane old mid before between first counted e is = let k = law lane old mid before between first counted e in (k.began ∙ is.0, k.requests ∙ is.1, k.scripted ∙ is.2)
-
-same_requests : {D : Type 0} → (history : D → Option History) (faults : D → Faults) (first last : WorldValue D) → EventKeeps D → WentOn history faults first last → HasSameRequests first last
-same_requests history faults first last law went =
-    stays_over (λ world h f. HasSameRequests first world) (same_on first law) went.0 (untraced first) (untraced last) (history first.store.disk) (history last.store.disk) (faults first.store.disk) (faults last.store.disk) went.1 (refl, refl, refl)
+went_keeps : {D : Type 0} → (history : D → Option History) (faults : D → Faults) (first last : WorldValue D) → OrderKeeps D → WentOn history faults first last → KeepsWorld (untraced first) (untraced last) (history first.store.disk) (history last.store.disk) (faults first.store.disk) (faults last.store.disk)
+went_keeps history faults first last law went = law went.0 (untraced first) (untraced last) (history first.store.disk) (history last.store.disk) (faults first.store.disk) (faults last.store.disk) went.1
 
 -- It has no requests but those with which it began.
-pub all_scripted : {D : Type 0} → (history : D → Option History) (faults : D → Faults) (script : Requests) (lanes : ℕ) (old : Option History) (began : Faults) (world ended : WorldValue D) → IsScriptOpened history faults script lanes old began world → EventKeeps D → WentOn history faults world ended → ended.scripted ≡ length ended.replies
+pub all_scripted : {D : Type 0} → (history : D → Option History) (faults : D → Faults) (script : Requests) (lanes : ℕ) (old : Option History) (began : Faults) (world ended : WorldValue D) → IsScriptOpened history faults script lanes old began world → OrderKeeps D → WentOn history faults world ended → ended.scripted ≡ length ended.replies
 all_scripted history faults script lanes old began world ended o law went =
-    let same = same_requests history faults world ended law went in
-    same.2 ∙ (ap (λ (w : WorldValue _). w.scripted) o.begins.2 ∙ (sym (length-replicate o.parts.requests None) ∙ sym (same.1 ∙ ap (λ (w : WorldValue _). length w.replies) o.begins.2)))
+    let kept = went_keeps history faults world ended law went in
+    kept.scripted ∙ (ap (λ (w : WorldValue _). w.scripted) o.begins.2 ∙ (sym (length-replicate o.parts.requests None) ∙ sym (kept.requests ∙ ap (λ (w : WorldValue _). length w.replies) o.begins.2)))
 
 -- the events began where the store was open
 pub went_from : {D : Type 0} → (history : D → Option History) (faults : D → Faults) (script : Requests) (lanes : ℕ) (old : Option History) (began : Faults) (world ended : WorldValue D) → (o : IsScriptOpened history faults script lanes old began world) → (went : WentOn history faults world ended)
@@ -655,18 +637,16 @@ went_from {D} history faults script lanes old began world ended o went =
     (subst (λ (t : StoreValue D). GoesOnInOrder went.0 (untraced world) (untraced ended) (history t.disk) (history ended.store.disk) (faults t.disk) (faults ended.store.disk)) (ap (λ (w : WorldValue D). w.store) o.begins.2) went.1)
 
 -- So its replies are given, and it is done.
-pub run_done : {D : Type 0} → (history : D → Option History) (faults : D → Faults) (script : Requests) (lanes : ℕ) (old : Option History) (began : Faults) (world ended : WorldValue D) → ((disk : D) → IfTold (history disk) ReadsImage) → LogsShow → LanesBegin D → WorldsBegin D → LanesEnd D → EventKeeps D
+pub run_done : {D : Type 0} → (history : D → Option History) (faults : D → Faults) (script : Requests) (lanes : ℕ) (old : Option History) (began : Faults) (world ended : WorldValue D) → ((disk : D) → IfTold (history disk) ReadsImage) → LogsShow → LanesBegin D → WorldsBegin D → LanesEnd D → OrderKeeps D
     → IsScriptOpened history faults script lanes old began world → WentOn history faults world ended → ((i : ℕ) → i < length ended.replies → (given : Reply) × HasReply ended.replies i given) → AreIdle (lanes_of ended.rows) → IsStore (history ended.store.disk) ended.store
     → (given : List Reply) × (ended.replies ≡ map Some given) × IsServedOpen script given ended.journal old (history ended.store.disk) began (faults ended.store.disk) ended.store
 run_done {D} history faults script lanes old began world ended reads show begin world_begin end law o went replied idle later =
+    let kept = went_keeps history faults world ended law went in
     script_done script old (history s.disk) (history ended.store.disk) began (faults ended.store.disk) s world (untraced ended)
-    (script_ran script lanes o.parts old (history s.disk) (history ended.store.disk) began (faults ended.store.disk) s world (untraced ended) went.0 o.opened (reads s.disk) o.unclaimed show o.are o.begins going (went_from history faults script lanes old began world ended o went) (same.0, same.1) replied idle later world_begin end)
+    (script_ran script lanes o.parts old (history s.disk) (history ended.store.disk) began (faults ended.store.disk) s world (untraced ended) went.0 o.opened (reads s.disk) o.unclaimed show o.are o.begins going (went_from history faults script lanes old began world ended o went) (kept.began, kept.requests) replied idle later world_begin end)
   where
     s : StoreValue D
     s = o.store
-
-    same : HasSameRequests world ended
-    same = same_requests history faults world ended law went
 
     going : (start : Lists) → MayRead script start old → LogsShowLists s.map (indexes_of s.boxes) start → (run : Run) → IsAtOpening run s → HasCome run s.map s.drawn (told_calls (history s.disk)) → IsGoing start script run [] no_broken (unreplied script) (seen_in s (history s.disk) began) s (history s.disk) began o.parts.rows
     going start may shows run at come =

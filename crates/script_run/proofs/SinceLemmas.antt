@@ -24,9 +24,9 @@ use Rattle.lane_tasks.specs.declared.task.Task.{Task}
 use Rattle.lane_tasks.specs.declared.task.Task.TheVariants as task
 use Rattle.lanes.specs.Going.{AreFreshRows, IsFreshRow, WaitsWithTask}
 use Rattle.lanes.specs.Rows.{LaneRow}
+use Rattle.lanes.specs.Turned.{GoesOnInOrder}
 use Rattle.lanes.specs.Worlds.{IsWorldOf, WorldValue, and_events, queued_in}
 use Rattle.lanes.specs.declared.lane.Queued.{Queued}
-use Rattle.script_run.specs.OpenScript.{GoesOnInOrder}
 use Rattle.script_run.specs.Script.{IsRefusedAtOnce, has_change, has_delivery, has_fetch, has_mail_read, has_purge, is_delivery, is_fetch, is_purge, only_reads, reads_mail}
 use Rattle.script_run.proofs.ChainLemmas.{AllTasks, WritesNoMail, in_turn, tasks_after}
 

@@ -7,6 +7,7 @@ use Rattle.mdbox_base.specs.declared.requests.Request.{Request}
 use Rattle.mdbox_base.specs.declared.script.JournalEntry.{JournalEntry}
 use Rattle.mdbox_base.specs.declared.script.Script.{Script}
 use Rattle.journal.specs.Journal.{Requests}
+use Rattle.lanes.specs.Turned.{WentOn, untraced}
 use Rattle.lanes.specs.Worlds.{WorldValue}
 use Rattle.store_core.specs.Running.{IsStore}
 use Rattle.store_core.specs.StoreInstances.{HasKnownInstances}
@@ -20,7 +21,7 @@ use Rattle.script_run.proofs.DoneLemmas.{EndedParts, went_from}
 use Rattle.script_run.proofs.OneTaskLemmas.{IsAloneSo, KeepsAlone, KeepsCounted, alone_fresh, alone_on}
 use Rattle.script_run.specs.LeftOpen.{IsRequestDone, IsServedOpen}
 use Rattle.script_run.specs.One.{alone}
-use Rattle.script_run.specs.OpenScript.{IsScriptOpened, WentOn, untraced}
+use Rattle.script_run.specs.OpenScript.{IsScriptOpened}
 use Rattle.script_run.specs.Worked.{IsWorkedOut}
 
 -- A script was opened, and its world went on to one that was taken apart so.

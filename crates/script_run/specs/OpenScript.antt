@@ -1,5 +1,5 @@
 -- A script that was opened: its store, and a world that began over it.
-use Rattle.std.specs.Prelude.{◌≡◌, ◌≤◌, ℕ, false, true, List, [], ◌∷◌, Option}
+use Rattle.std.specs.Prelude.{◌≡◌, ◌≤◌, ℕ, false, List, Option}
 use Rattle.disk_model.specs.Disk.{EachImage, Faults, History}
 use Rattle.model_lists.specs.Lists.{Lists}
 use Rattle.model_store.specs.Safe.{Safe}
@@ -15,7 +15,7 @@ use Rattle.store_open.specs.Opened.{IsClosedWell, IsOpenedAs, KeepsOpenedMail, S
 use Rattle.store_sweep.specs.Moments.{IdleIf}
 use Rattle.store_sweep.specs.Swept.{IsSwept}
 use Rattle.task_claims.specs.Claims.{HasNoTask}
-use Rattle.lanes.specs.Worlds.{AreOfLanes, ArePartsOf, IsFreshWorld, IsLaneEvent, PartsValue, WorldValue}
+use Rattle.lanes.specs.Worlds.{AreOfLanes, ArePartsOf, IsFreshWorld, PartsValue, WorldValue}
 use Rattle.script_run.specs.Opening.{StaysSettled}
 
 -- The store was opened, and isn't stopped: with logs, storage files and instances that the files have, and no number is drawn nor count due
@@ -51,16 +51,3 @@ pub record IsScriptOpened {D : Type 0} (history : D → Option History) (faults 
   pub parts : PartsValue
   pub are : ArePartsOf script lanes parts
   pub begins : IsFreshWorld store parts (history store.disk) world
-
-abbrev pub untraced : {D : Type 0} → WorldValue D → WorldValue D
-untraced world = record world { turns = []; finished = true }
-
-abbrev pub GoesOnInOrder : {D : Type 0} → List ℕ → WorldValue D → WorldValue D → Option History → Option History → Faults → Faults → Type 0
-GoesOnInOrder [] old new before after first second = (new ≡ old) × (after ≡ before) × (second ≡ first)
-GoesOnInOrder (lane ∷ lanes) old new before after first second =
-    (mid : WorldValue _) × (between : Option History) × (counted : Faults) × IsLaneEvent lane old mid before between first counted × (mid.turns ≡ old.turns) × GoesOnInOrder lanes mid new between after counted second
-
--- The first world went on to the last by events of its lanes, in whatever order, whether they were turns or finished the lanes.
-abbrev pub WentOn : {D : Type 0} → (D → Option History) → (D → Faults) → WorldValue D → WorldValue D → Type 0
-WentOn history faults first last =
-    (lanes : List ℕ) × GoesOnInOrder lanes (untraced first) (untraced last) (history first.store.disk) (history last.store.disk) (faults first.store.disk) (faults last.store.disk)

@@ -4,6 +4,7 @@ use Rattle.disk_model.specs.Disk.{Faults, History}
 use Rattle.mdbox_base.specs.declared.replies.Reply.{Reply}
 use Rattle.mdbox_base.specs.declared.script.JournalEntry.{JournalEntry}
 use Rattle.journal.specs.Journal.{Requests}
+use Rattle.lanes.specs.Turned.{GoesOnInOrder, untraced}
 use Rattle.lanes.specs.Worlds.{ArePartsOf, IsFreshWorld, PartsValue, WorldValue}
 use Rattle.store_core.specs.Running.{IsStore}
 use Rattle.store_core.specs.StoreInstances.{HasKnownInstances}
@@ -12,7 +13,6 @@ use Rattle.store_files.specs.Found.{IsFoundFiles}
 use Rattle.store_open.specs.Opened.{IsOpenedAs, StoreCarries}
 use Rattle.store_sweep.specs.Swept.{IsSwept}
 use Rattle.script_run.specs.Opening.{StaysSettled}
-use Rattle.script_run.specs.OpenScript.{GoesOnInOrder, untraced}
 
 -- The store was opened, with logs, storage files and instances that the files have, and isn't stopped; the opening swept the disk,
 -- carried over all that the store reads, and left a disk settled that was so. A world of the script's requests, of so many lanes, began

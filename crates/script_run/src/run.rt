@@ -6,18 +6,20 @@ ghost use Rattle.journal.specs.Journal.{Requests};
 ghost use Rattle.serving.specs.Serving.{AreIdle};
 ghost use Rattle.lanes.specs.Kept.{AreKeptOf};
 ghost use Rattle.lanes.specs.Rows.{lanes_of};
+ghost use Rattle.lanes.specs.Turned.{WentOn};
 ghost use Rattle.lanes.specs.Worlds.{AreGiven, AreOfLanes, HasItsMessage, WorldValue};
 ghost use Rattle.script_run.specs.Done.{IsScriptDone};
 ghost use Rattle.script_run.specs.LeftOpen.{IsRequestDone, IsServedOpen};
 ghost use Rattle.script_run.specs.One.{alone};
-ghost use Rattle.script_run.specs.OpenScript.{IsScriptOpened, WentOn};
+ghost use Rattle.script_run.specs.OpenScript.{IsScriptOpened};
 ghost use Rattle.script_run.specs.Opening.{IsUnopened};
 ghost use Rattle.script_run.specs.Worked.{IsWorkedOut};
 
 use attach_detach::Prepared;
 use disk_model::Disk;
 use lanes::{
-    World, WorldParts, idle_worlds_have_replied, lanes_begin, lanes_end, worlds_begin, worlds_go_on,
+    World, WorldParts, events_are_in_order, idle_worlds_have_replied, lanes_begin, lanes_end,
+    rounds_are_events, worlds_begin,
 };
 use mdbox_base::{JournalEntry, NoMemory, Reply, Request, Script, Seq};
 use std::alloc::Global;
@@ -87,6 +89,7 @@ pub fn serve_script<D: Disk>(
     ensures worked { IfOk result (λ served. IsWorkedOut D script.requests script.lanes served.replies served.journal (D.history disk) (D.history served.store.disk) (D.faults disk) (D.faults served.store.disk)) }
     ensures refused { IfErr result (λ refused. IsUnopened refused.error (D.history disk) (D.history refused.disk) (D.faults disk) (D.faults refused.disk)) }
 {
+    rounds_are_events::<D>();
     let mut world = open_script(alloc, disk, script, prepared)?;
     world.known_facts();
     world.finish();
@@ -129,14 +132,15 @@ pub fn close_script<D: Disk>(world: World<D>) -> ServedScript<D>
     requires idle { AreIdle (lanes_of world.rows) }
     ensures parts { (result.store ≡ world.store) × (result.journal ≡ world.journal) × AreKeptOf world.scripted world.replies result.replies }
     // Of whatever script and whatever opening it went on, in whatever order its events were made, the script is served.
-    ensures served { (script : Requests) (lanes : ℕ) (old : Option History) (began : Faults) (first : WorldValue D) → IsScriptOpened D.history D.faults script lanes old began first → WentOn D.history D.faults first world → (given : List ReplyValue) × (result.replies ≡ map Some given) × IsServedOpen script given result.journal old (D.history result.store.disk) began (D.faults result.store.disk) result.store }
+    ensures served { (script : Requests) (lanes : ℕ) (old : Option History) (began : Faults) (first : WorldValue D) → IsScriptOpened D.history D.faults script lanes old began first → WentOn D.history D.faults first world
+        → (given : List ReplyValue) × (result.replies ≡ map Some given) × IsServedOpen script given result.journal old (D.history result.store.disk) began (D.faults result.store.disk) result.store }
     ensures worked { (script : Requests) (lanes : ℕ) (old : Option History) (began : Faults) (first : WorldValue D) → IsScriptOpened D.history D.faults script lanes old began first → WentOn D.history D.faults first world → IsWorkedOut D script lanes result.replies result.journal old (D.history result.store.disk) began (D.faults result.store.disk) }
 {
     listings_are_shown();
     lanes_begin::<D>();
     worlds_begin::<D>();
     lanes_end::<D>();
-    worlds_go_on::<D>();
+    events_are_in_order::<D>();
     idle_worlds_have_replied::<D>();
     world.known_facts();
     let (store, replies, journal, _broken) = world.into_parts();

@@ -24,13 +24,15 @@ use Rattle.lane_tasks.specs.declared.task.Task.{Task}
 use Rattle.lanes.specs.Asked.{GoesWith, HasNoIdleTurn, asked_in}
 use Rattle.lanes.specs.Going.{AreFreshRows}
 use Rattle.lanes.specs.Rows.{lanes_of}
+use Rattle.lanes.specs.Turned.{GoesOnInOrder}
 use Rattle.lanes.specs.Worlds.{GoesOnBy, IsWorldOf, WorldValue, and_events}
+use Rattle.lanes.proofs.RoundLemmas.{in_order}
 use Rattle.lanes.proofs.TraceLemmas.{as_finished, world_finished}
 use Rattle.script_run.specs.Done.{MayRead}
 use Rattle.script_run.specs.Opening.{LogsShowLists}
-use Rattle.script_run.specs.OpenScript.{GoesOnInOrder, IsStoreOpened}
+use Rattle.script_run.specs.OpenScript.{IsStoreOpened}
 use Rattle.script_run.specs.Script.{IsRefusedAtOnce, has_change, has_delivery, has_fetch, has_mail_read, has_purge}
-use Rattle.script_run.proofs.ChainLemmas.{AllTasks, HasCounted, HasDoomedNone, HasOnlyRead, HasReadAsTold, HasReadNoOctets, HasWrittenNone, WritesNoMail, calm_on, counted_first, counted_on, reads_on, rounds_in_order, stays_over, syncs_first, unread_on, unwritten_on}
+use Rattle.script_run.proofs.ChainLemmas.{AllTasks, HasCounted, HasDoomedNone, HasOnlyRead, HasReadAsTold, HasReadNoOctets, HasWrittenNone, WritesNoMail, calm_on, counted_first, counted_on, reads_on, stays_over, syncs_first, unread_on, unwritten_on}
 use Rattle.script_run.proofs.DoneLemmas.{LanesEnd, RunLeft, RunSince}
 use Rattle.script_run.proofs.OpenedLemmas.{none_doomed}
 use Rattle.script_run.proofs.RunBeginsLemmas.{before_opening, beginning}
@@ -92,7 +94,7 @@ module _ {D : Type 0} (history : D → Option History) (faults : D → Faults) (
 
   -- the events that finished it
   chain : GoesOnInOrder r.turns (as_finished mid) ended asked_disk left_disk asked_faults left_faults
-  chain = rounds_in_order 0 r.turns (as_finished mid) ended asked_disk left_disk asked_faults left_faults r.ends
+  chain = in_order 0 r.turns (as_finished mid) ended asked_disk left_disk asked_faults left_faults r.ends
 
   -- the tasks of a world without a request
   no_tasks : (Holds : Task → Type 0) → AllTasks Holds world.rows
