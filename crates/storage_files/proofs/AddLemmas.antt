@@ -50,7 +50,7 @@ pub stands-now : (name : FileName) (end : ℕ) (old : Option History) → IfTold
 stands-now name end old images long = if_told-both _ _ _ old (λ disk i l. stands (disk name) end l (i name)) images long
 
 -- below the end, one state leaves what another does
-front_left : (end : ℕ) (f g : FileState) → Stands end f → g.is_there ≡ f.is_there → g.is_name_loose ≡ f.is_name_loose → f.least ≤ g.least
+pub front_left : (end : ℕ) (f g : FileState) → Stands end f → g.is_there ≡ f.is_there → g.is_name_loose ≡ f.is_name_loose → f.least ≤ g.least
     → ((i : ℕ) → i < end → f.is_loose i ≡ false → (g.is_loose i ≡ false) × (slice_get g.octets i ≡ slice_get f.octets i))
     → (left : Option (List ℕ)) → MayLeave g left → MayLeave f (option_map (take end) left)
 front_left end f g s there name least same None (inl gone) = inl (sym there ∙ gone)
@@ -72,7 +72,7 @@ front_left end f g s there name least same (Some o) h =
       are_octets = All-take (λ octet. octet < 256) end o h.are_octets;
     }
 
-end_octets : (end : ℕ) (from : List ℕ) (f : FileState) → Stands end f → overlaid f.octets end from ≡ f.octets ++ from
+pub end_octets : (end : ℕ) (from : List ℕ) (f : FileState) → Stands end f → overlaid f.octets end from ≡ f.octets ++ from
 end_octets end from f s = subst (λ (n : ℕ). overlaid f.octets n from ≡ f.octets ++ from) s.long (overlaid-end f.octets from)
 
 end_same : (end : ℕ) (from : List ℕ) (f : FileState) → Stands end f → (i : ℕ) → i < end → slice_get (overlaid f.octets end from) i ≡ slice_get f.octets i
@@ -81,7 +81,7 @@ end_same end from f s i below =
     ap (λ (o : List ℕ). slice_get o i) (end_octets end from f s)
     ∙ at_place (f.octets ++ from) f.octets i (omega (arith, length-append f.octets from, l, below)) (omega (arith, l, below)) (get_or-append f.octets from 0 i (omega (arith, l, below)))
 
-not_covered : (end n i : ℕ) (f : FileState) → i < end → f.is_loose i ≡ false → (f.is_loose i || covers end n i) ≡ false
+pub not_covered : (end n i : ℕ) (f : FileState) → i < end → f.is_loose i ≡ false → (f.is_loose i || covers end n i) ≡ false
 not_covered end n i f below firm = or_from (f.is_loose i) (covers end n i) firm (covers-before end n i below)
 
 -- what the images have of the file
@@ -131,7 +131,7 @@ added_back end from f are s left (inr (e, gone)) =
     let F : Option (List ℕ) → Type 0 = MayLeave (synced (written end from f)) in
     subst F (sym e) (elim gone [ inl none ↦ absurd (true≢false (sym s.there ∙ none)) | inr loose ↦ inr loose ])
 
-added_file : (end : ℕ) (from : List ℕ) (f : FileState) → AreOctets from → Stands end f → IsAddedTo from f (synced (written end from f))
+pub added_file : (end : ℕ) (from : List ℕ) (f : FileState) → AreOctets from → Stands end f → IsAddedTo from f (synced (written end from f))
 added_file end from f are s = record {
   before = f.octets;
   read = reading_from_there f s.there;
