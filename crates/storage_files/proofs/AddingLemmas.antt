@@ -2,6 +2,7 @@
 use Rattle.std.proofs.Common.{◌≡◌, Bool, ℕ, ◌<◌, ◌≤◌, ◌+◌, List, [], ◌++◌, length, take, slice_get, Option, Some, None, true, false, max, All, refl, sym, ◌∙◌, subst, ap, arith, append_assoc, append-nil, length-append, ◌||◌}
 use Rattle.std.specs.Option.{option_map}
 use Rattle.std.proofs.Math.ListN.{get_or-append}
+use Rattle.std.proofs.lemmas.List.{nil_from_length}
 use Rattle.std.proofs.lemmas.List.Elements.{All-append}
 use Rattle.disk_model.specs.Disk.{FileState, DiskState, History, EachImage, SameButFor, MayLeave, Reaches, IfTold, Between, AfterFailed, after, change, written, half_written, overlaid, covers, synced, IsThere}
 use Rattle.disk_model.specs.declared.name.FileName.{FileName}
@@ -186,3 +187,45 @@ sync_added name end octets first now new h fit goes =
     between-after (λ a b. IsAddedOn end octets (a name) (b name)) (λ a b. IsAddedTo octets (a name) (b name)) (λ disk. Unit {0}) (change name synced) first now new
     (λ a b r t. let F : FileState → Type 0 = λ f. IsAddedTo octets (a name) f in subst F (sym (change-here name synced b)) (synced_added end octets (a name) (b name) r fit))
     h.added (if_told-all _ now (λ disk. tt)) goes
+
+-- ---- octets in pieces
+
+pub next_at : (end at behind : ℕ) (before octets : List ℕ) → at ≡ end + length before → behind ≡ at + length octets → behind ≡ end + length (before ++ octets)
+next_at end at behind before octets is then = let l = length-append before octets in omega (arith, is, then, l)
+
+-- Of these octets some were added, to where the file ends now, and the rest weren't yet.
+pub record AreAddedSoFar (name : FileName) (at : ℕ) (octets : List ℕ) (old : Option History) (end : ℕ) (rest : List ℕ) (now : Option History) : Type 0 where
+  pub done : List ℕ
+  pub cut : octets ≡ done ++ rest
+  pub ends : end ≡ at + length done
+  pub added : (from : ℕ) (before : List ℕ) (first : Option History) → AreAddedOn name from before first old → at ≡ from + length before → AreAddedOn name from (before ++ done) first now
+
+pub none_added : (name : FileName) (at : ℕ) (octets : List ℕ) (old : Option History) → AreAddedSoFar name at octets old at octets old
+none_added name at octets old = record {
+  done = [];
+  cut = refl;
+  ends = omega arith;
+  added = λ from before first h is. subst (λ (xs : List ℕ). AreAddedOn name from xs first old) (sym (append-nil before)) h;
+}
+
+pub piece_added : (name : FileName) (at : ℕ) (octets : List ℕ) (old : Option History) (end behind : ℕ) (rest piece left : List ℕ) (now new : Option History) → AreAddedSoFar name at octets old end rest now → rest ≡ piece ++ left → behind ≡ end + length piece
+    → ((from : ℕ) (before : List ℕ) (first : Option History) → AreAddedOn name from before first now → end ≡ from + length before → AreAddedOn name from (before ++ piece) first new) → AreAddedSoFar name at octets old behind left new
+piece_added name at octets old end behind rest piece left now new h cut ends goes = record {
+  done = h.done ++ piece;
+  cut = h.cut ∙ (ap (λ (xs : List ℕ). h.done ++ xs) cut ∙ sym (append_assoc h.done piece left));
+  ends = next_at at end behind h.done piece h.ends ends;
+  added = λ from before first begun is. subst (λ (xs : List ℕ). AreAddedOn name from xs first new) (append_assoc before h.done piece) (goes from (before ++ h.done) first (h.added from before first begun is) (next_at from at end before h.done is h.ends));
+}
+
+pub all_added : (name : FileName) (at : ℕ) (octets : List ℕ) (old : Option History) (end : ℕ) (rest : List ℕ) (now : Option History) → AreAddedSoFar name at octets old end rest now → length rest ≡ 0 → (end ≡ at + length octets)
+    × ((from : ℕ) (before : List ℕ) (first : Option History) → AreAddedOn name from before first old → at ≡ from + length before → AreAddedOn name from (before ++ octets) first now)
+all_added name at octets old end rest now h none =
+    let empty : rest ≡ [] = nil_from_length rest none in
+    let all : octets ≡ h.done = h.cut ∙ (ap (λ (xs : List ℕ). h.done ++ xs) empty ∙ append-nil h.done) in
+    (
+      h.ends ∙ ap (λ (xs : List ℕ). at + length xs) (sym all),
+      λ from before first begun is. subst (λ (xs : List ℕ). AreAddedOn name from (before ++ xs) first now) (sym all) (h.added from before first begun is),
+    )
+
+pub octets_fit : (front body back : List ℕ) → AreOctets front → AreOctets body → AreOctets back → AreOctets ((front ++ body) ++ back)
+octets_fit front body back a b c = All-append (λ octet. octet < 256) (front ++ body) back (All-append (λ octet. octet < 256) front body a b) c
