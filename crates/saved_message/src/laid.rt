@@ -27,6 +27,7 @@ pub struct Laid {
 }
 
 impl Model for Laid {
+    ghost use Rattle.std.specs.Prelude.{◌++◌};
     ghost use Rattle.saved_message.specs.Laid.{LaidValue, laid_of};
 
     ghost Value = { LaidValue };

@@ -1,14 +1,14 @@
 -- A file to which octets are added in several writes.
-use Rattle.std.proofs.Common.{◌≡◌, Bool, ℕ, ◌<◌, ◌≤◌, ◌+◌, List, [], ◌++◌, length, take, slice_get, Option, Some, None, true, false, max, All, refl, sym, ◌∙◌, subst, ap, arith, append_assoc, append-nil, length-append, ◌||◌}
+use Rattle.std.proofs.Common.{◌≡◌, Bool, ℕ, ◌<◌, ◌+◌, List, [], ◌++◌, length, take, slice_get, Option, Some, None, false, All, refl, sym, ◌∙◌, subst, ap, arith, append_assoc, append-nil, length-append}
 use Rattle.std.specs.Option.{option_map}
 use Rattle.std.proofs.Math.ListN.{get_or-append}
 use Rattle.std.proofs.lemmas.List.{nil_from_length}
 use Rattle.std.proofs.lemmas.List.Elements.{All-append}
-use Rattle.disk_model.specs.Disk.{FileState, DiskState, History, EachImage, SameButFor, MayLeave, Reaches, IfTold, Between, AfterFailed, after, change, written, half_written, overlaid, covers, synced, IsThere}
+use Rattle.disk_model.specs.Disk.{FileState, History, SameButFor, MayLeave, Reaches, IfTold, Between, AfterFailed, after, change, written, half_written, overlaid, synced, IsThere}
 use Rattle.disk_model.specs.declared.name.FileName.{FileName}
-use Rattle.disk_model.proofs.OneFileLemmas.{IsAlong, Along, along-begins, along-fails, along-fails_still, along-goes_on, change-here}
-use Rattle.disk_model.proofs.BetweenLemmas.{between-after, between-begins, between-if, between-on}
-use Rattle.disk_model.proofs.MomentLemmas.{if_told-map, if_told-all}
+use Rattle.disk_model.proofs.OneFileLemmas.{Along, along-begins, along-fails, along-fails_still, along-goes_on, change-here}
+use Rattle.disk_model.proofs.BetweenLemmas.{between-after}
+use Rattle.disk_model.proofs.MomentLemmas.{if_told-all}
 use Rattle.disk_model.proofs.FirmLemmas.{at_place}
 use Rattle.disk_model.proofs.LeavingLemmas.{overlaid-end}
 use Rattle.storage_files.specs.Adding.{AreAddedOn, IsAddedOn, KeepsFront}

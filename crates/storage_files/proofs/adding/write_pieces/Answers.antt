@@ -1,4 +1,4 @@
-use Rattle.std.proofs.Common.{◌≡◌, ◌++◌, ap, sym, ◌∙◌, take, drop, take-append-drop, ℕ, List, refl}
+use Rattle.std.proofs.Common.{◌≡◌, ◌++◌, sym, ◌∙◌, take-append-drop, ℕ, List, refl}
 use Rattle.storage_files.proofs.AddingLemmas.{piece_added}
 use Rattle.storage_files.proofs.adding.write_pieces.Goals as goal
 
