@@ -1,8 +1,8 @@
 // A message as it is stored.
-ghost use Rattle.std.specs.Prelude.{◌≡◌, ◌≤◌, [], length, filter, IfOk, IfSome, IfNone};
+ghost use Rattle.std.specs.Prelude.{◌≡◌, ◌≤◌, [], length, IfOk};
 ghost use Rattle.std.specs.List.{list_any};
 ghost use Rattle.model_mime.specs.Parts.{parts_in};
-ghost use Rattle.attach_detach.specs.Prepared.{IsPrepared, IsPlain};
+ghost use Rattle.attach_detach.specs.Prepared.{IsPrepared, IsPlain, IsTakenApart};
 
 use crate::cut::cut;
 use crate::size::bare_breaks;
@@ -44,8 +44,7 @@ pub fn prepare(alloc: Global, message: &[u8]) -> Result<Prepared, NoMemory>
 /// Takes every detachable part out of a message, or answers None where it has none: then it is stored as it is.
 pub fn take_apart(alloc: Global, message: &[u8]) -> Result<Option<Prepared>, NoMemory>
     requires { length message.now ≤ 67108864 }
-    ensures some { IfOk result (λ found. IfSome found (λ prepared. IsPrepared message.now prepared)) }
-    ensures none { IfOk result (λ found. IfNone found (filter (λ part. part.detachable) (parts_in message.now) ≡ [])) }
+    ensures { IfOk result (IsTakenApart message.now) }
 {
     let leaves = leaf_parts(alloc, message)?;
     if has_detachable(leaves.as_slice()) {

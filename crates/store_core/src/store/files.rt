@@ -1,5 +1,5 @@
 // The storage files of a store: who takes which, and what is written to them and read.
-ghost use Rattle.std.specs.Prelude.{◌≡◌, ◌↔◌, ◌≤◌, ◌+◌, ◌||◌, ℕ, List, length, take, drop, max, true, false, Some, None, IfOk, OnOk, OnErr, IsOk, IsErr};
+ghost use Rattle.std.specs.Prelude.{◌≡◌, ◌↔◌, ◌≤◌, ◌+◌, ◌++◌, ◌||◌, ℕ, List, length, take, drop, max, true, false, Some, None, IfOk, OnOk, OnErr, IsOk, IsErr};
 ghost use Rattle.disk_model.specs.Disk.{Between, Grows, IfTold, IsIdle, Keeps, SameButFor, reading};
 ghost use Rattle.disk_model.specs.FaultCounts.{NoFault, ChangeFaultCounted, ReadFaultCounted};
 ghost use Rattle.disk_model.specs.declared.name.FileName.TheVariants.{Mail};
