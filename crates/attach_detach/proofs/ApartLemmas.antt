@@ -1,12 +1,13 @@
 -- A message without detachable parts is prepared as it is.
-use Rattle.std.specs.Prelude.{◌≡◌, Bool, true, false, ◌||◌, cond, ℕ, List, [], ◌∷◌, filter, refl, All, map}
+use Rattle.std.specs.Prelude.{◌≡◌, Bool, true, false, ◌||◌, cond, ℕ, List, [], ◌∷◌, filter, refl, All, length, map, Option, Some, None}
 use Rattle.std.specs.List.{list_any}
 use Rattle.std.proofs.Common.{sym, subst}
 use Rattle.std.proofs.lemmas.List.Elements.{All-nil}
 use Rattle.model_attach.specs.Detached.{AreCut}
+use Rattle.model_attach.specs.VirtualSize.{virtual_size}
 use Rattle.model_mime.specs.Parts.{parts_in}
 use Rattle.model_mime.specs.declared.mime.Part.{Part}
-use Rattle.attach_detach.specs.Prepared.{HasHash, IsPlain, IsPrepared, piece_of}
+use Rattle.attach_detach.specs.Prepared.{HasHash, IsPlain, IsPrepared, IsTakenApart, piece_of}
 use Rattle.attach_detach.specs.declared.message.Detached.{Detached}
 use Rattle.attach_detach.specs.declared.message.Prepared.{Prepared}
 
@@ -26,3 +27,11 @@ plain_prepared message p plain none = record {
   whole = plain.whole;
   virtual = plain.virtual;
 }
+
+-- a message that was taken apart has a prepared form
+abbrev plain_form : List ℕ → Prepared
+plain_form message = record { body = message; parts = []; whole = length message; virtual_size = virtual_size message }
+
+pub taken_apart : (message : List ℕ) (found : Option Prepared) → IsTakenApart message found → (prepared : Prepared) × IsPrepared message prepared
+taken_apart message (Some prepared) is = (prepared, is)
+taken_apart message None none = (plain_form message, plain_prepared message (plain_form message) (record { body = refl; parts = refl; whole = refl; virtual = refl }) none)
