@@ -1,5 +1,3 @@
-use Rattle.std.proofs.Common.{List, ◌≤◌, length, subst, sym}
-use Rattle.attach_detach.specs.declared.message.Detached.{Detached}
 use Rattle.mail_save.proofs.AttachmentSizeLemmas.{attachments_short}
 use Rattle.mail_save.proofs.first.parts_of.Goals as goal
 

@@ -12,8 +12,8 @@ place_texts-requires-clause-fits g c =
     let same = c.set_guid.ensures.size in
     (t.end, t.ends, omega (arith, fits, long, same))
 
-pub length-requires : goal.length-requires
-length-requires g c = let fits = c.requires.taken.fits in let same = c.set_guid.ensures.size in omega (arith, fits, same)
+pub length-size-requires : goal.length-size-requires
+length-size-requires g c = let fits = c.requires.taken.fits in let same = c.set_guid.ensures.size in omega (arith, fits, same)
 
 pub returns-clause-placed : goal.returns-clause-placed
 returns-clause-placed g c =

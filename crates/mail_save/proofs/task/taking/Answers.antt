@@ -14,8 +14,8 @@ use Rattle.mail_save.proofs.TakingLemmas.{takes_as, untaken_instances, untaken_u
 use Rattle.mail_save.specs.declared.task.SaveStage.TheVariants as stage
 use Rattle.mail_save.proofs.task.taking.Goals as goal
 
-pub length-requires : goal.length-requires
-length-requires g c =
+pub length-size-requires : goal.length-size-requires
+length-size-requires g c =
     let timed : c.args.time < 2 ^ 64 = search rules in
     let most = (region_short c.args.name.now c.args.time c.args.parts c.args.store.now _ (subst IsName c.as_octets-name.ensures.same c.as_octets-name.ensures.name) timed c.requires.left).1 in
     omega (arith, most)
