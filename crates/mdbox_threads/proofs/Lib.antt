@@ -1,2 +1,3 @@
 pub mod GivenLemmas
 pub mod JobLemmas
+pub mod SendLemmas
