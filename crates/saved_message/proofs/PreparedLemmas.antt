@@ -1,13 +1,12 @@
 -- A message has one prepared form.
-use Rattle.std.proofs.Common.{refl, ◌≡◌, ℕ, List, [], ◌∷◌, map, All, sym, ◌∙◌, ap, subst}
+use Rattle.std.proofs.Common.{refl, ◌≡◌, ℕ, List, [], ◌∷◌, map, All, sym, ◌∙◌, ap}
 use Rattle.std.specs.Prelude.{filter}
-use Rattle.std.proofs.lemmas.List.Elements.{All-head, All-nil, All-tail}
+use Rattle.std.proofs.lemmas.List.Elements.{All-head, All-tail}
 use Rattle.sha1.specs.Sha1.{sha1}
 use Rattle.model_attach.proofs.DetachedLemmas.{cut_once}
-use Rattle.model_attach.specs.Detached.{AreCut, Piece}
+use Rattle.model_attach.specs.Detached.{Piece}
 use Rattle.model_mime.specs.Parts.{parts_in}
-use Rattle.model_mime.specs.declared.mime.Part.{Part}
-use Rattle.attach_detach.specs.Prepared.{HasHash, IsPlain, IsPrepared, piece_of}
+use Rattle.attach_detach.specs.Prepared.{HasHash, IsPrepared, piece_of}
 use Rattle.attach_detach.specs.declared.message.Detached.{Detached}
 use Rattle.attach_detach.specs.declared.message.Prepared.{Prepared}
 

@@ -1,4 +1,4 @@
-use Rattle.mail_save.proofs.Common.{rules, arith, ℕ, Some, subst, IsFree, ◌≡◌, ◌≤◌, ◌<◌, ◌+◌, ◌++◌, ◌^◌, length, refl, ap, sym, ◌∙◌, option_and_then, end_in, ending_at, place_begun_in}
+use Rattle.mail_save.proofs.Common.{rules, arith, ℕ, Some, subst, IsFree, ◌≡◌, ◌<◌, ◌+◌, ◌++◌, ◌^◌, length, refl, ap, sym, ◌∙◌, option_and_then, end_in, ending_at, place_begun_in}
 use Rattle.storage_files.proofs.FileListLemmas.{ends-other}
 use Rattle.mail_save.proofs.PlaceLemmas.{region_placed, place_named}
 use Rattle.mail_save.proofs.SaveFileLemmas.{value_changed}

@@ -1,4 +1,4 @@
-use Rattle.mail_save.proofs.Common.{rules, ◌≡◌, ◌<◌, ◌^◌, ◌∙◌, ap, sym, subst, refl, arith, ℕ, List, Err, length, IsName, InstRow, AreHeld, due_at, MovesHolds, holds_of, save_amounts, HoldsFile, TakesWithHeader, LetsGo, TakesNone, Saves}
+use Rattle.mail_save.proofs.Common.{rules, ◌<◌, ◌^◌, ◌∙◌, ap, sym, subst, refl, arith, ℕ, List, Err, length, IsName, InstRow, AreHeld, due_at, MovesHolds, holds_of, save_amounts, HoldsFile, TakesWithHeader, LetsGo, TakesNone, Saves}
 use Rattle.mdbox_base.specs.declared.progress.Progress.TheVariants as progress
 use Rattle.mdbox_base.specs.declared.replies.Reply.TheVariants as reply
 use Rattle.mail_save.proofs.FaultLemmas.{change_faults}

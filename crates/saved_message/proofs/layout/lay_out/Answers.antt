@@ -1,4 +1,4 @@
-use Rattle.std.proofs.Common.{◌++◌, ◌+◌, map, ◌≡◌, ◌<◌, ◌^◌, ◌∙◌, List, ℕ, ap, sym, subst, arith, length}
+use Rattle.std.proofs.Common.{◌++◌, ◌+◌, map, ◌<◌, ◌^◌, ◌∙◌, List, ℕ, ap, sym, subst, arith, length}
 use Rattle.model_storage.specs.References.{reference_text}
 use Rattle.attach_detach.specs.declared.message.Detached.{Detached}
 use Rattle.saved_message.specs.Laid.{IsLaid, LaidValue}

@@ -1,9 +1,8 @@
-use Rattle.std.proofs.Common.{subst, sym, arith, ◌++◌, ◌≤◌, ◌∙◌, ℕ, List, drop, length}
+use Rattle.std.proofs.Common.{subst, sym, arith, ◌++◌, ◌∙◌, ℕ, List, drop, length}
 use Rattle.std.proofs.lemmas.List.{with_items_is}
 use Rattle.saved_message.specs.Laid.{IsLaid, LaidValue, laid_of}
 use Rattle.saved_message.specs.Saved.{ids_in}
-use Rattle.saved_message.specs.References.{HasReferencesAt, marked}
-use Rattle.saved_message.specs.Region.{references_naming}
+use Rattle.saved_message.specs.References.{HasReferencesAt}
 use Rattle.saved_message.proofs.LaidLemmas.{ids_laid, laid_references, parts_one_each, with_region}
 use Rattle.saved_message.proofs.RegionLemmas.{after_references, before_references}
 use Rattle.saved_message.proofs.TextsLemmas.{references_behind, rejoined}
