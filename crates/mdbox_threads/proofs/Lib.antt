@@ -1,2 +1,5 @@
 pub mod GivenLemmas
+pub mod HandedLemmas
 pub mod JobLemmas
+pub mod SeatLemmas
+pub mod TraceLemmas
