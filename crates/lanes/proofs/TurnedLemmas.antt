@@ -123,8 +123,8 @@ module _ {D : Type 0} (history : D → Option History) (faults : D → Faults) w
       → (t ≡ Worked → IsLaneEvent lane old new (history old.store.disk) (history new.store.disk) (faults old.store.disk) (faults new.store.disk) × (new.turns ≡ old.turns ++ turn_of lane false ∷ []))
       → (t ≡ Idle → IsIdleLane lane old.rows × (new ≡ record old { turns = old.turns ++ turn_of lane true ∷ [] }))
       → (t ≡ NoMemory → (old.turn_room ≤ length old.turns) × (new ≡ old)) → CameInTurns history faults first new
-  came_on lane Worked first old new came some worked idle none = came_more (turn_of lane false) first old new came (inr (refl, some, (worked refl).0, (worked refl).1))
-  came_on lane Idle first old new came some worked idle none = came_more (turn_of lane true) first old new came (inl (refl, some, (idle refl).0, (idle refl).1))
+  came_on lane Worked first old new came some worked idle none = came_more (turn_of lane false) first old new came (inr (refl, (some, (worked refl).0, (worked refl).1)))
+  came_on lane Idle first old new came some worked idle none = came_more (turn_of lane true) first old new came (inl (refl, (some, (idle refl).0, (idle refl).1)))
   came_on lane NoMemory first old new came some worked idle none = subst (λ (w : WorldValue D). CameInTurns history faults first w) (sym (none refl).1) came
 
   -- ---- what they keep
@@ -133,8 +133,8 @@ module _ {D : Type 0} (history : D → Option History) (faults : D → Faults) w
   Keeps old new = KeepsWorld old new (history old.store.disk) (history new.store.disk) (faults old.store.disk) (faults new.store.disk)
 
   turn_keeps : (turn : LaneTurn) (old new : WorldValue D) → IsTurnOf history faults turn old new → Keeps old new
-  turn_keeps turn old new (inl idle) = subst (λ (w : WorldValue D). Keeps old w) (sym idle.3) (keeps_traced old (old.turns ++ turn_of turn.lane true ∷ []) (history old.store.disk) (faults old.store.disk))
-  turn_keeps turn old new (inr event) = event_keeps turn.lane old new (history old.store.disk) (history new.store.disk) (faults old.store.disk) (faults new.store.disk) event.2
+  turn_keeps turn old new (inl idle) = subst (λ (w : WorldValue D). Keeps old w) (sym idle.1.2) (keeps_traced old (old.turns ++ turn_of turn.lane true ∷ []) (history old.store.disk) (faults old.store.disk))
+  turn_keeps turn old new (inr event) = event_keeps turn.lane old new (history old.store.disk) (history new.store.disk) (faults old.store.disk) (faults new.store.disk) event.1.1
 
   -- whatever the script and the disk
   pub turns_keep : (turns : List LaneTurn) (old new : WorldValue D) → GoesInTurns history faults turns old new → Keeps old new
@@ -144,10 +144,10 @@ module _ {D : Type 0} (history : D → Option History) (faults : D → Faults) w
 
   turn_traced : (turn : LaneTurn) (old new : WorldValue D) → IsTurnOf history faults turn old new → (new.turns ≡ old.turns ++ turn ∷ []) × (new.finished ≡ old.finished)
   turn_traced turn old new (inl idle) = (
-    ap (λ (w : WorldValue D). w.turns) idle.3 ∙ ap (λ (b : Bool). old.turns ++ turn_of turn.lane b ∷ []) (sym idle.0),
-    ap (λ (w : WorldValue D). w.finished) idle.3,
+    ap (λ (w : WorldValue D). w.turns) idle.1.2 ∙ ap (λ (b : Bool). old.turns ++ turn_of turn.lane b ∷ []) (sym idle.0),
+    ap (λ (w : WorldValue D). w.finished) idle.1.2,
   )
-  turn_traced turn old new (inr event) = (event.3 ∙ ap (λ (b : Bool). old.turns ++ turn_of turn.lane b ∷ []) (sym event.0), event.2.works.finished_is)
+  turn_traced turn old new (inr event) = (event.1.2 ∙ ap (λ (b : Bool). old.turns ++ turn_of turn.lane b ∷ []) (sym event.0), event.1.1.works.finished_is)
 
   -- they are added to the trace
   pub turns_traced : (turns : List LaneTurn) (old new : WorldValue D) → GoesInTurns history faults turns old new → (new.turns ≡ old.turns ++ turns) × (new.finished ≡ old.finished)
@@ -171,12 +171,12 @@ module _ {D : Type 0} (history : D → Option History) (faults : D → Faults) w
       → ((run : Run) (steps : List JournalStep) (failed : Broken) → IsOfRun mid start script run steps failed began → Serves (lanes_worked turns) new start script run steps began)
       → (run : Run) (steps : List JournalStep) (failed : Broken) → IsOfRun old start script run steps failed began → Serves (lanes_worked (turn ∷ turns)) new start script run steps began
   one_serves turn turns old mid new start script began (inl idle) rest run steps failed is =
-      let there = subst (λ (w : WorldValue D). IsOfRun w start script run steps failed began) (sym idle.3)
-      (idle_world turn.lane start script run steps failed began (history old.store.disk) (faults old.store.disk) old idle.1 idle.2 is) in
+      let there = subst (λ (w : WorldValue D). IsOfRun w start script run steps failed began) (sym idle.1.2)
+      (idle_world turn.lane start script run steps failed began (history old.store.disk) (faults old.store.disk) old idle.1.0 idle.1.1 is) in
       let r = rest run steps failed there in
       (r.0, r.1, r.2, r.3 ∙ sym (worked_front turn turns true idle.0), r.4)
   one_serves turn turns old mid new start script began (inr event) rest run steps failed is =
-      let e = event.2.goes start script run steps failed began is in
+      let e = event.1.1.goes start script run steps failed began is in
       let r = rest (and_then run e.0) (steps ++ e.1) e.2 e.4 in (
         e.0 ∷ r.0,
         e.1 ++ r.1,
@@ -208,12 +208,12 @@ module _ {D : Type 0} (history : D → Option History) (faults : D → Faults) w
   InOrder lanes old new = GoesOnInOrder lanes (untraced old) (untraced new) (history old.store.disk) (history new.store.disk) (faults old.store.disk) (faults new.store.disk)
 
   one_event : (turn : LaneTurn) (turns : List LaneTurn) (old mid new : WorldValue D) → old.began ≤ 2 ^ 64 - 1 → length old.replies ≤ 100000 → IsTurnOf history faults turn old mid → InOrder (lanes_worked turns) mid new → InOrder (lanes_worked (turn ∷ turns)) old new
-  one_event turn turns old mid new clock few (inl idle) rest = subst (λ (ls : List ℕ). InOrder ls old new) (sym (worked_front turn turns true idle.0)) (subst (λ (w : WorldValue D). InOrder (lanes_worked turns) w new) idle.3 rest)
+  one_event turn turns old mid new clock few (inl idle) rest = subst (λ (ls : List ℕ). InOrder ls old new) (sym (worked_front turn turns true idle.0)) (subst (λ (w : WorldValue D). InOrder (lanes_worked turns) w new) idle.1.2 rest)
   one_event turn turns old mid new clock few (inr event) rest = subst (λ (ls : List ℕ). InOrder ls old new) (sym (worked_front turn turns false event.0)) (
     untraced mid,
     history mid.store.disk,
     faults mid.store.disk,
-    event_untraced turn.lane old mid (history old.store.disk) (history mid.store.disk) (faults old.store.disk) (faults mid.store.disk) event.1 clock few event.2,
+    event_untraced turn.lane old mid (history old.store.disk) (history mid.store.disk) (faults old.store.disk) (faults mid.store.disk) event.1.0 clock few event.1.1,
     refl,
     rest,
   )

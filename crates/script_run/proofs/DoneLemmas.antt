@@ -38,7 +38,6 @@ use Rattle.lanes.specs.Going.{AreFreshRows, FindsMessages, IsGoing}
 use Rattle.lanes.specs.Rows.{LaneRow, lane_value, lanes_of}
 use Rattle.lanes.specs.Turned.{GoesOnInOrder, WentOn, untraced}
 use Rattle.lanes.specs.Worlds.{AreOfLanes, ArePartsOf, IsFreshWorld, IsWorldOf, KeepsWorld, PartsValue, WorldValue, and_events}
-use Rattle.lanes.proofs.TurnedLemmas.{world_untraced}
 use Rattle.lane_tasks.specs.Clause.{AnswersReads, DoomsNone, OnlyReads, ReadsNoOctets}
 use Rattle.task_steps.proofs.UnmovedLemmas.{mail_still}
 use Rattle.lane_tasks.specs.Tasks.{BeginsTask}
@@ -331,7 +330,7 @@ pub record ScriptRan {D : Type 0} (script : Requests) (old mid new : Option Hist
   pub store_is : world.store ≡ s
   pub runs : world.store.stopped ≡ false
   pub made_is : IsMoment mid world.began
-  pub begins : (start : Lists) → LogsShowLists s.map (indexes_of s.boxes) start → MayRead script start old → IsWorldOf start script (beginning s.map opened.store.entries) [] no_broken (before_opening (seen_in s mid first) old) mid first world
+  pub begins : (start : Lists) → LogsShowLists s.map (indexes_of s.boxes) start → MayRead script start old → IsWorldOf start script (beginning s.map opened.store.entries) [] no_broken (before_opening (seen_in s mid first) old) mid first (untraced world)
   pub turns : List ℕ
   pub chain : GoesOnInOrder turns (untraced world) ended mid new first last
   pub same_began : ended.began ≡ world.began
@@ -347,7 +346,7 @@ ended_world : {D : Type 0} → (script : Requests) (old mid new : Option History
 ended_world script old mid new first last s world ended r start shows may =
     let run : Run = beginning s.map r.opened.store.entries in
     let from : Seen = before_opening (seen_in s mid first) old in
-    served_since r.turns (untraced world) ended mid new first last r.chain start script run [] no_broken from (world_untraced start script run [] no_broken from mid first world (r.begins start shows may))
+    served_since r.turns (untraced world) ended mid new first last r.chain start script run [] no_broken from (r.begins start shows may)
 
 -- what came of the counts of faults
 counts_of_run : {D : Type 0} → (script : Requests) (old mid new : Option History) (first last : Faults) (s : StoreValue D) (world ended : WorldValue D) → ScriptRan script old mid new first last s world ended → HasCounted mid first ended new last
@@ -400,7 +399,7 @@ sealed_since : {D : Type 0} → (script : Requests) (old mid new : Option Histor
 sealed_since script old mid new first last s world ended r start shows may =
     let run : Run = beginning s.map r.opened.store.entries in
     let from : Seen = before_opening (seen_in s mid first) old in
-    let fresh = world_untraced start script run [] no_broken from mid first world (r.begins start shows may) in
+    let fresh = r.begins start shows may in
     stays_over (HasKeptSealed start script s.map mid) (sealed_on start script s.map mid) r.turns (untraced world) ended mid new first last r.chain
     (sealed_first start script run no_broken from s.map mid (untraced world) first fresh (ap (λ (v : StoreValue _). v.map) r.store_is))
 
@@ -586,11 +585,15 @@ script_done script old mid new first last s world ended r =
       },
     )
 
+-- the law of worlds without their turns
+abbrev pub AlsoUntraced : (D : Type 0) → Type 0
+AlsoUntraced D = (start : Lists) (script : Requests) (run : Run) (steps : List JournalStep) (failed : Broken) (began : Seen) (history : Option History) (faults : Faults) (world : WorldValue D) → IsWorldOf start script run steps failed began history faults world → IsWorldOf start script run steps failed began history faults (untraced world)
+
 -- What a script's run says of the opening, of the world and of its end: so it is done.
 pub script_ran : {D : Type 0} → (script : Requests) (lanes : ℕ) (parts : PartsValue) (old mid new : Option History) (first last : Faults) (s : StoreValue D) (world ended : WorldValue D) (turns : List ℕ) → (o : IsStoreOpened old mid s) → IfTold mid ReadsImage → HasNoTask s → LogsShow → ArePartsOf script lanes parts → IsFreshWorld s parts mid world
     → ((start : Lists) → MayRead script start old → LogsShowLists s.map (indexes_of s.boxes) start → (run : Run) → IsAtOpening run s → HasCome run s.map s.drawn (told_calls mid) → IsGoing start script run [] no_broken (unreplied script) (seen_in s mid first) s mid first parts.rows)
-    → GoesOnInOrder turns (untraced world) ended mid new first last → (ended.began ≡ world.began) × (length ended.replies ≡ length world.replies) → ((i : ℕ) → i < length ended.replies → (given : Reply) × HasReply ended.replies i given) → AreIdle (lanes_of ended.rows) → IsStore new ended.store → WorldsBegin D → LanesEnd D → ScriptRan script old mid new first last s world ended
-script_ran script lanes parts old mid new first last s world ended turns o reads unused show are begun going goes keeps replied idle later begin law = record {
+    → GoesOnInOrder turns (untraced world) ended mid new first last → (ended.began ≡ world.began) × (length ended.replies ≡ length world.replies) → ((i : ℕ) → i < length ended.replies → (given : Reply) × HasReply ended.replies i given) → AreIdle (lanes_of ended.rows) → IsStore new ended.store → WorldsBegin D → AlsoUntraced D → LanesEnd D → ScriptRan script old mid new first last s world ended
+script_ran script lanes parts old mid new first last s world ended turns o reads unused show are begun going goes keeps replied idle later begin unturned law = record {
   opened = o;
   reads = reads;
   unused = unused;
@@ -599,7 +602,9 @@ script_ran script lanes parts old mid new first last s world ended turns o reads
   store_is = ap (λ (w : WorldValue _). w.store) begun.2;
   runs = ap (λ (w : WorldValue _). w.store.stopped) begun.2 ∙ o.running;
   made_is = subst (λ (n : ℕ). IsMoment mid n) (sym (ap (λ (w : WorldValue _). w.began) begun.2)) begun.1;
-  begins = λ start shows may. begins_from start script lanes parts old mid first s o world begin (going start may shows (beginning s.map o.store.entries) (at_opening old mid s o) (first_come old mid (told_calls mid) s o)) are shows may begun;
+  begins = λ start shows may.
+      unturned start script (beginning s.map o.store.entries) [] no_broken (before_opening (seen_in s mid first) old) mid first world
+      (begins_from start script lanes parts old mid first s o world begin (going start may shows (beginning s.map o.store.entries) (at_opening old mid s o) (first_come old mid (told_calls mid) s o)) are shows may begun);
   turns = turns;
   chain = goes;
   same_began = keeps.0;
@@ -637,13 +642,13 @@ went_from {D} history faults script lanes old began world ended o went =
     (subst (λ (t : StoreValue D). GoesOnInOrder went.0 (untraced world) (untraced ended) (history t.disk) (history ended.store.disk) (faults t.disk) (faults ended.store.disk)) (ap (λ (w : WorldValue D). w.store) o.begins.2) went.1)
 
 -- So its replies are given, and it is done.
-pub run_done : {D : Type 0} → (history : D → Option History) (faults : D → Faults) (script : Requests) (lanes : ℕ) (old : Option History) (began : Faults) (world ended : WorldValue D) → ((disk : D) → IfTold (history disk) ReadsImage) → LogsShow → LanesBegin D → WorldsBegin D → LanesEnd D → OrderKeeps D
+pub run_done : {D : Type 0} → (history : D → Option History) (faults : D → Faults) (script : Requests) (lanes : ℕ) (old : Option History) (began : Faults) (world ended : WorldValue D) → ((disk : D) → IfTold (history disk) ReadsImage) → LogsShow → LanesBegin D → WorldsBegin D → LanesEnd D → OrderKeeps D → AlsoUntraced D
     → IsScriptOpened history faults script lanes old began world → WentOn history faults world ended → ((i : ℕ) → i < length ended.replies → (given : Reply) × HasReply ended.replies i given) → AreIdle (lanes_of ended.rows) → IsStore (history ended.store.disk) ended.store
     → (given : List Reply) × (ended.replies ≡ map Some given) × IsServedOpen script given ended.journal old (history ended.store.disk) began (faults ended.store.disk) ended.store
-run_done {D} history faults script lanes old began world ended reads show begin world_begin end law o went replied idle later =
+run_done {D} history faults script lanes old began world ended reads show begin world_begin end law unturned o went replied idle later =
     let kept = went_keeps history faults world ended law went in
     script_done script old (history s.disk) (history ended.store.disk) began (faults ended.store.disk) s world (untraced ended)
-    (script_ran script lanes o.parts old (history s.disk) (history ended.store.disk) began (faults ended.store.disk) s world (untraced ended) went.0 o.opened (reads s.disk) o.unclaimed show o.are o.begins going (went_from history faults script lanes old began world ended o went) (kept.began, kept.requests) replied idle later world_begin end)
+    (script_ran script lanes o.parts old (history s.disk) (history ended.store.disk) began (faults ended.store.disk) s world (untraced ended) went.0 o.opened (reads s.disk) o.unclaimed show o.are o.begins going (went_from history faults script lanes old began world ended o went) (kept.began, kept.requests) replied idle later world_begin unturned end)
   where
     s : StoreValue D
     s = o.store

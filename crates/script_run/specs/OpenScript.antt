@@ -22,20 +22,20 @@ use Rattle.script_run.specs.Opening.{StaysSettled}
 -- that they don't have. The opening swept the disk, carried over all that the store reads, and left a store that was closed well as it was.
 -- Of a disk that was settled for lists each crash image is safe for them, and it is settled for them again. At each moment storage files
 -- and instances stayed.
-pub record IsStoreOpened {D : Type 0} (old mid : Option History) (store : StoreValue D) : Type 0 where
-  pub opened : IsOpenedAs old store.map (indexes_of store.boxes)
-  pub store : IsStore mid store
-  pub known : HasKnownInstances mid store
-  pub drawn : store.drawn ≡ store.map.highest
-  pub free : store.dues ≡ none_due store.map.records
-  pub order : AreFilesInOrder store.files
-  pub files : IsFoundFiles store.map old store.files
-  pub instances : IsFoundInstances store.map store.instances
-  pub running : store.stopped ≡ false
+pub record IsStoreOpened {D : Type 0} (old mid : Option History) (s : StoreValue D) : Type 0 where
+  pub opened : IsOpenedAs old s.map (indexes_of s.boxes)
+  pub store : IsStore mid s
+  pub known : HasKnownInstances mid s
+  pub drawn : s.drawn ≡ s.map.highest
+  pub free : s.dues ≡ none_due s.map.records
+  pub order : AreFilesInOrder s.files
+  pub files : IsFoundFiles s.map old s.files
+  pub instances : IsFoundInstances s.map s.instances
+  pub running : s.stopped ≡ false
   pub safe : (lists : Lists) → IsSettledFor lists old → EachImage (λ _ image. Safe image lists) old mid
   pub settled_again : StaysSettled old mid
   pub carried : StoreCarries old mid
-  pub swept : (generation : ℕ) × IsSwept generation store.map old mid
+  pub swept : (generation : ℕ) × IsSwept generation s.map old mid
   pub stays : KeepsOpenedMail old mid
   pub closed_well : IdleIf IsClosedWell old mid
 

@@ -17,7 +17,7 @@ returns-clause-served g c script lanes old began first o went =
     let apart = c.into_parts-store.ensures.whole (all_scripted history faults script lanes old began first ended o c.events_are_in_order.ensures.keeps went) in
     let later = subst (λ (p : EndedParts _). IsStore (history p.0.disk) p.0) apart c.facts.ensures.store in
     handed_out history faults script old began ended c.into_parts-store.result apart
-    (run_done history faults script lanes old began first ended g.met.D.Disk.reads_image c.listings_are_shown.ensures.logs c.lanes_begin.ensures c.worlds_begin.ensures c.lanes_end.ensures c.events_are_in_order.ensures.keeps o went
+    (run_done history faults script lanes old began first ended g.met.D.Disk.reads_image c.listings_are_shown.ensures.logs c.lanes_begin.ensures c.worlds_begin.ensures c.lanes_end.ensures c.events_are_in_order.ensures.keeps c.events_are_in_order.ensures.untraced o went
     (c.idle_worlds_have_replied.ensures ended _ c.known_facts.ensures c.requires.idle) c.requires.idle later)
 
 pub returns-clause-worked : goal.returns-clause-worked
