@@ -6,7 +6,7 @@ ghost use Rattle.lanes.specs.declared.turn.Turned.TheVariants as turned;
 ghost use Rattle.mdbox_threads.specs.Handed.{IsAdvanced, KeepsFirst};
 
 use disk_model::Disk;
-use lanes::{Turned, World};
+use lanes::{Turned, World, turns_go_on};
 use std::marker::Model;
 use std::snapshot::Snapshot;
 use turn_lock::Charter;
@@ -57,6 +57,7 @@ impl<D: Disk> Handed<D> {
         ensures turned { IsAdvanced lane result self.old self.new }
         ensures left { result ≡ turned.Worked → world_left self.new.world < world_left self.old.world }
     {
+        turns_go_on::<D>();
         self.world.advance(lane)
     }
 
@@ -64,6 +65,7 @@ impl<D: Disk> Handed<D> {
     pub(crate) fn replied(&self, lane: u32) -> u64
         requires lane { (1 ≤ lane) × (lane ≤ length self.now.first.rows) }
     {
+        turns_go_on::<D>();
         self.world.replied(lane)
     }
 
@@ -75,6 +77,7 @@ impl<D: Disk> Handed<D> {
             mut world,
             first: _,
         } = self;
+        turns_go_on::<D>();
         world.finish();
         world
     }
