@@ -2,4 +2,5 @@ pub mod GivenLemmas
 pub mod HandedLemmas
 pub mod JobLemmas
 pub mod SeatLemmas
+pub mod SendLemmas
 pub mod TraceLemmas
