@@ -5,7 +5,6 @@ pub use all::prepare_all;
 pub use pause::{NoPause, Pause};
 pub use preparer::{InThreads, InTurn, Preparer};
 pub use run::run_lanes;
-pub use serve::serve_in_threads;
 pub use turn::prepare_in_turn;
 
 mod all;
@@ -15,6 +14,5 @@ mod job;
 mod pause;
 mod preparer;
 mod run;
-mod serve;
 mod turn;
 mod work;

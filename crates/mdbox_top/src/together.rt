@@ -8,16 +8,17 @@ ghost use Rattle.script_run.specs.Worked.{IsWorkedOut};
 
 use attach_detach::Prepared;
 use disk_model::Disk;
+use lanes::runs_are_events;
 use mdbox_base::{Script, Seq};
-use mdbox_threads::{Pause, serve_in_threads};
-use script_run::{ServedScript, close_script, open_script};
+use mdbox_threads::{Pause, run_lanes};
+use script_run::{ServedScript, close_script, open_script, serve_script};
 use std::alloc::Global;
 use std::sync::Wait;
 use std::thread::Threads;
 use store_open::OpenRefused;
 
-/// Opens the store and does the requests of a script, to their end, as `serve_script` of `script_run` does, but that threads serve its
-/// lanes if there are more than one; and leaves the store open.
+/// Opens the store and does the requests of a script, to their end, as `serve_script` of `script_run` does, but that each lane is served
+/// by a thread, if there are more than one; and leaves the store open. One lane alone has nobody to take turns with.
 pub(crate) fn serve_script_in_threads<R: Threads + Wait + Sync, D: Disk + Send, P: Pause + Sync>(
     rt: &R,
     alloc: Global,
@@ -33,11 +34,10 @@ pub(crate) fn serve_script_in_threads<R: Threads + Wait + Sync, D: Disk + Send, 
     ensures worked { IfOk result (λ served. IsWorkedOut D script.requests script.lanes served.replies served.journal (D.history disk) (D.history served.store.disk) (D.faults disk) (D.faults served.store.disk)) }
     ensures refused { IfErr result (λ refused. IsUnopened refused.error (D.history disk) (D.history refused.disk) (D.faults disk) (D.faults refused.disk)) }
 {
-    match open_script(alloc, disk, script, prepared) {
-        Ok(world) => {
-            let world = serve_in_threads(rt, alloc, world, pause);
-            Ok(close_script(world))
-        }
-        Err(refused) => Err(refused),
+    if script.lanes == 1 {
+        return serve_script(alloc, disk, script, prepared);
     }
+    runs_are_events::<D>();
+    let world = open_script(alloc, disk, script, prepared)?;
+    Ok(close_script(run_lanes(rt, alloc, world, pause)))
 }
