@@ -9,8 +9,8 @@ use Rattle.script_run.proofs.run.open_script.Goals as goal
 pub returns-in_default-clause-refused : goal.returns-in_default-clause-refused
 returns-in_default-clause-refused g c = unopened_still (g.D.Disk.history c.args.disk) (g.D.Disk.faults c.args.disk)
 
-pub of-world-requires-clause-unused : goal.of-world-requires-clause-unused
-of-world-requires-clause-unused g c =
+pub of-requires-in-Ok-open_store-clause-unused : goal.of-requires-in-Ok-open_store-clause-unused
+of-requires-in-Ok-open_store-clause-unused g c =
     let o = c.in-Ok-open_store.ensures in (
       no_task (g.D.Disk.history c.args.disk) (g.D.Disk.history c.in-Ok-open_store.store.disk) c.in-Ok-open_store.store
           (record {
@@ -63,12 +63,12 @@ returns-in-Ok-open_store-clause-opened g c =
       of_lanes = c.requires.lanes.2;
       parts = c.in-Ok.parts;
       are = c.in-Ok.ensures;
-      begins = c.of-world.ensures;
+      begins = c.of-in-Ok-open_store.ensures;
     }
 
 pub returns-in-Ok-open_store-clause-fresh : goal.returns-in-Ok-open_store-clause-fresh
 returns-in-Ok-open_store-clause-fresh g c =
-    let is = c.of-world.ensures.2 in (
+    let is = c.of-in-Ok-open_store.ensures.2 in (
       ap (λ (w : WorldValue _). length w.rows) is ∙ c.in-Ok.ensures.many,
       ap (λ (w : WorldValue _). w.turns) is,
       ap (λ (w : WorldValue _). w.finished) is,
