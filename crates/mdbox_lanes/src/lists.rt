@@ -23,7 +23,7 @@ struct Lists {
     has_world: bool,
 }
 
-/// The replies to a purge, a delivery, a fetch and a move.
+/// The replies to a delivery, a fetch and a move.
 #[derive(Clone, Copy)]
 struct Replies<'x> {
     delivery: Printed<'x>,
@@ -34,10 +34,9 @@ struct Replies<'x> {
 /// How many steps are printed at the most.
 const MOST_STEPS: u64 = 8;
 
-/// What A has once the steps were made in the order of their printed places, if each reply is what lists answer at its place.
+/// What A has once the steps were made in the order of their printed places, if each reply is what lists answer at its place. A purge
+/// changes no list.
 pub fn follow(alloc: Global, text: &str) -> Result<Vec<&'static str>, Wrong> {
-    let purge = reply_to(text, 1)?;
-    must(purge.reply.starts_with("OK 1 "), "a purge")?;
     let replies = Replies {
         delivery: reply_to(text, 2)?,
         fetch: reply_to(text, 3)?,
@@ -62,6 +61,17 @@ pub fn follow(alloc: Global, text: &str) -> Result<Vec<&'static str>, Wrong> {
     }
     must(!lists.has_world, "the moved message is still there")?;
     Ok(lists.listed)
+}
+
+/// How many records a purge dropped: the one that no list names, or none, if its storage file was in use.
+pub fn dropped_in(text: &str) -> Result<u64, Wrong> {
+    let purge = reply_to(text, 1)?;
+    if purge.reply.starts_with("OK 1 ") {
+        Ok(1)
+    } else {
+        must(purge.reply == "OK 0 0 0", "a purge")?;
+        Ok(0)
+    }
 }
 
 fn reply_to<'x>(text: &'x str, number: u64) -> Result<Printed<'x>, Wrong> {

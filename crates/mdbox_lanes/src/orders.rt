@@ -1,5 +1,5 @@
 // A purge, a delivery, a fetch and a move on four lanes, in many orders.
-use crate::lists::follow;
+use crate::lists::{dropped_in, follow};
 use crate::pauses::Ordered;
 use crate::runs::{Ran, copy_of, new_store, run_script};
 use crate::wrong::{Wrong, must};
@@ -81,8 +81,9 @@ fn play<R: Threads + Wait + Sync>(
         return Err(Wrong::Differs("no text"));
     };
     let listed = follow(alloc, text)?;
+    let records = 4 - dropped_in(text)?;
     let left = run_script(rt, alloc, ran.disk, "1", AFTER, &NoPause)?;
-    let expected = seen_after(alloc, listed.as_slice())?;
+    let expected = seen_after(alloc, listed.as_slice(), records)?;
     must(
         left.printed.as_slice() == expected.as_bytes(),
         "what is there afterwards",
@@ -90,13 +91,13 @@ fn play<R: Threads + Wait + Sync>(
     Ok(ran.printed)
 }
 
-/// What is printed afterwards, if A has these messages.
-fn seen_after(alloc: Global, listed: &[&'static str]) -> Result<String, Wrong> {
+/// What is printed afterwards, if A has these messages, and the map so many records.
+fn seen_after(alloc: Global, listed: &[&'static str], records: u64) -> Result<String, Wrong> {
     let [first, second] = listed else {
         return Err(Wrong::Differs("not two messages"));
     };
     Ok(format!(in alloc;
-        "1 1 OK 5\nHello\n2 2 NO 12 no message\n3 3 OK 5\n{first}\n4 4 OK 5\n{second}\n5 5 NO 12 no message\n6 6 OK 0 0\n7 7 OK 3 3 3 0\n"
+        "1 1 OK 5\nHello\n2 2 NO 12 no message\n3 3 OK 5\n{first}\n4 4 OK 5\n{second}\n5 5 NO 12 no message\n6 6 OK 0 0\n7 7 OK {records} 3 3 0\n"
     )?)
 }
 
