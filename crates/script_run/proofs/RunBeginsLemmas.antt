@@ -14,7 +14,7 @@ use Rattle.model_store.specs.Settled.{files_of}
 use Rattle.list_machine.specs.Run.{Run, before, map_of}
 use Rattle.journal.specs.Makes.{HasCome}
 use Rattle.task_steps.specs.Step.{Seen}
-use Rattle.store_core.specs.Value.{StoreValue, indexes_of}
+use Rattle.store_core.specs.Value.{StoreValue}
 use Rattle.store_seen.specs.Seeing.{IsAtOpening}
 use Rattle.script_run.specs.Opening.{RunBegins, RunHasCome, barred_files}
 use Rattle.script_run.specs.OpenScript.{IsStoreOpened}

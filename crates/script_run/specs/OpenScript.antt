@@ -1,5 +1,5 @@
 -- A script that was opened: its store, and a world that began over it.
-use Rattle.std.specs.Prelude.{◌≡◌, ◌≤◌, ℕ, false, List, Option}
+use Rattle.std.specs.Prelude.{◌≡◌, ◌≤◌, ℕ, false, Option}
 use Rattle.disk_model.specs.Disk.{EachImage, Faults, History}
 use Rattle.model_lists.specs.Lists.{Lists}
 use Rattle.model_store.specs.Safe.{Safe}
