@@ -2,6 +2,7 @@
 //! store afterwards.
 #![tactic(auto)]
 
+use messages::prepare_together;
 use orders::{Counted, play_orders};
 use rows::{fetch_beside_purge, numbers_of_exercise};
 use std::io;
@@ -11,6 +12,7 @@ use std::thread::Threads;
 use wrong::Wrong;
 
 mod lists;
+mod messages;
 mod orders;
 mod pauses;
 mod printed;
@@ -30,6 +32,10 @@ fn tell<R: Threads + Wait + Sync>(rt: &R, host: HostRuntime) -> io::Result<()> {
     match numbers_of_exercise(rt, host.alloc()) {
         Ok(text) => println!(host; "{text}")?,
         Err(wrong) => println!(host; "exercise: {wrong}")?,
+    }
+    match prepare_together(rt, host.alloc()) {
+        Ok(()) => println!(host; "messages are prepared in threads")?,
+        Err(wrong) => println!(host; "messages prepared in threads: {wrong}")?,
     }
     match fetch_beside_purge(rt, host) {
         Ok(()) => println!(host; "a fetch goes on beside a purge")?,
