@@ -6,12 +6,11 @@ use Rattle.std.proofs.lemmas.List.{append-nil, append_assoc, length-set}
 use Rattle.disk_model.specs.Disk.{Faults, History, told_calls}
 use Rattle.mdbox_base.specs.declared.replies.Reply.{Reply}
 use Rattle.mdbox_base.specs.declared.script.JournalEntry.{JournalEntry}
-use Rattle.model_lists.specs.Lists.{Lists}
-use Rattle.list_machine.specs.Run.{Run, RunEvent, and_then}
-use Rattle.journal.specs.Journal.{Broken, HasReply, IsFirstPart, JournalStep, Requests}
+use Rattle.list_machine.specs.Run.{RunEvent, and_then}
+use Rattle.journal.specs.Journal.{HasReply, IsFirstPart, JournalStep}
 use Rattle.serving.specs.Lanes.{replies_behind}
 use Rattle.serving.proofs.LaneLemmas.{get_set_other, nat_cases, one_some}
-use Rattle.task_steps.specs.Step.{Seen, ended_by}
+use Rattle.task_steps.specs.Step.{ended_by}
 use Rattle.lanes.specs.Rows.{LaneRow}
 use Rattle.lanes.specs.Turned.{GoesOnInOrder}
 use Rattle.lanes.specs.Worlds.{AreAdded, AreIdleBetween, GoesInRounds, GoesOnBy, IsIdleLane, IsLaneEvent, IsNextBusy, IsServedOn, IsWorldOf, KeepsWorld, WorldValue, and_events, turns_behind}

@@ -1,6 +1,6 @@
 -- Turns, one after another, and events without them.
-use Rattle.std.proofs.Common.{◌≡◌, ◌≤◌, ◌+◌, ◌-◌, ◌^◌, ℕ, Bool, true, false, cond, List, [], ◌∷◌, ◌++◌, map, Option, Some, None, refl, sym, ◌∙◌, ap, subst, arith, inl, inr}
-use Rattle.std.specs.Prelude.{◌⊎◌, filter, length, not}
+use Rattle.std.proofs.Common.{◌≡◌, ◌≤◌, ◌+◌, ◌-◌, ◌^◌, ℕ, Bool, true, false, cond, List, [], ◌∷◌, ◌++◌, map, Option, None, refl, sym, ◌∙◌, ap, subst, arith, inl, inr}
+use Rattle.std.specs.Prelude.{filter, length, not}
 use Rattle.std.specs.Option.{option_map_or}
 use Rattle.std.proofs.lemmas.List.{append-nil, append_assoc}
 use Rattle.std.proofs.lemmas.List.Elements.{All-nil}
@@ -11,10 +11,9 @@ use Rattle.journal.specs.Journal.{Broken, JournalStep, Requests}
 use Rattle.serving.specs.Turns.{IsTraceOf, IsTrueTurn, LaneTurn, lanes_worked}
 use Rattle.serving.proofs.TurnLemmas.{trace_idle}
 use Rattle.task_steps.specs.Step.{Seen}
-use Rattle.lanes.specs.Asked.{IsEventTurn}
 use Rattle.lanes.specs.Rows.{LaneRow, lane_value, lanes_of}
-use Rattle.lanes.specs.Turned.{CameInTurns, GoesInTurns, GoesOnInOrder, HasRun, IsIdleTurn, IsTurnOf, WentOn, untraced}
-use Rattle.lanes.specs.Worlds.{GoesInRounds, GoesOnBy, IsIdleLane, IsLaneEvent, IsServedOn, IsSoundWorld, IsWorldOf, KeepsWorld, WorldValue, and_events, turn_of}
+use Rattle.lanes.specs.Turned.{CameInTurns, GoesInTurns, GoesOnInOrder, HasRun, IsTurnOf, WentOn, untraced}
+use Rattle.lanes.specs.Worlds.{GoesInRounds, GoesOnBy, IsIdleLane, IsLaneEvent, IsServedOn, IsWorldOf, KeepsWorld, WorldValue, and_events, turn_of}
 use Rattle.lanes.specs.declared.lane.Queued.{Queued}
 use Rattle.lanes.specs.declared.turn.Turned.{Turned}
 use Rattle.lanes.specs.declared.turn.Turned.TheVariants.{Idle, NoMemory, Worked}

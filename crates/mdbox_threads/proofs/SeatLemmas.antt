@@ -86,6 +86,11 @@ same_sum f (x ∷ xs) (y ∷ ys) len h =
     let b = sum_by-cons f y ys in
     omega (arith, here, more, a, b)
 
+-- seats of a new lock are ready
+pub all_ready : {D : Type 0} → (lock : LockOf D) (first : WorldValue D) (handed : HandedValue D) (seats now : List (SeatOf D)) → handed ≡ record { world = first; first = first } → now ≡ seats → All (IsFreeSeat lock) seats → All (IsUnder handed.first handed.world.finished) seats → All (IsReadySeat lock first) now
+all_ready {D} lock first handed seats now is same free under =
+    subst (λ (l : List (SeatOf D)). All (IsReadySeat lock first) l) (sym same) (λ k d h. (free k d h, subst (λ (v : HandedValue D). IsUnder v.first v.world.finished (slice_index_or seats k d)) is (under k d h)))
+
 module _ {D : Type 0} (lock : LockOf D) (first : WorldValue D) (old new : List (SeatOf D)) (len : length new ≡ length old)
     (each : (i : ℕ) (d : SeatOf D) → i < length old → HasWorkedAway lock first (i + 1) (slice_index_or old i d) (slice_index_or new i d)) where
   pub all_free : All (IsFreeSeat lock) new

@@ -1,7 +1,10 @@
--- A world may go to another thread if its disk may: each large type in it by those below.
+-- A world may go to another thread if its disk may: each large type in it by those below. So may the seats of its lock, which threads share.
 use denote.RattleType.{RattleType}
-use denote.Param.Send.{IsSend, sendable}
+use denote.Param.Send.{IsSend, IsSync, sendable}
 use Rattle.std.proofs.Crossing.{crosses}
+use Rattle.atomic_table.proofs.send_lease.SendLease.TheSendSync as lease
+use Rattle.atomic_table.proofs.shared.Seat.TheSendSync as seat
+use Rattle.atomic_table.proofs.shared.Shared.TheSendSync as shared
 use Rattle.box_index.specs.contracts.index.BoxIndex as BoxIndex
 use Rattle.disk_model.specs.declared.disk.Disk.{Ghosts}
 use Rattle.gate_log.specs.contracts.log.GateLog as GateLog
@@ -21,12 +24,16 @@ use Rattle.mail_ops.specs.contracts.renaming.RenameTask as RenameTask
 use Rattle.mail_ops.specs.contracts.task.OpsTask as OpsTask
 use Rattle.mail_save.specs.contracts.task.SaveTask as SaveTask
 use Rattle.map_index.specs.contracts.index.MapIndex as MapIndex
+use Rattle.mdbox_threads.specs.contracts.handed.Handed as Handed
 use Rattle.purge_task.specs.contracts.task.PurgeTask as PurgeTask
 use Rattle.resync_task.specs.contracts.task.ResyncTask as ResyncTask
 use Rattle.sis_store.specs.contracts.instances.Instances as Instances
 use Rattle.storage_files.specs.contracts.files.MailFiles as MailFiles
 use Rattle.store_core.specs.contracts.store.OpenBox as OpenBox
 use Rattle.store_core.specs.contracts.store.Store as Store
+use Rattle.turn_lock.specs.contracts.lock.TurnLock as TurnLock
+use Rattle.turn_lock.specs.contracts.lock.TurnSeat as TurnSeat
+use Rattle.turn_lock.specs.declared.charter.Charter as charter
 
 -- ---- a store
 
@@ -105,3 +112,14 @@ Lane-send = search (Queued-send, sendable, crosses) depth 200 fits 100000
 
 pub World-send : (D : RattleType) (g : Ghosts D.Denot) → IsSend D → IsSend (World.the_row D g)
 World-send D g s = search (Store-send, Lane-send, sendable, crosses) depth 200 fits 100000
+
+pub Handed-send : (D : RattleType) (g : Ghosts D.Denot) → IsSend D → IsSend (Handed.the_row D g)
+Handed-send D g s = search (World-send, sendable, crosses) depth 200 fits 100000
+
+-- ---- its lock
+
+pub TurnSeat-send : (W T : RattleType) → IsSend W → IsSend (TurnSeat.the_row W T)
+TurnSeat-send W T s = search (seat.the_send, sendable, crosses) depth 200 fits 100000
+
+pub TurnLock-sync : (W T : RattleType) (g : charter.Ghosts W.Denot T.Denot) → IsSend W → IsSync (TurnLock.the_row W T g)
+TurnLock-sync W T g s = search (shared.the_sync, lease.the_sync, sendable, crosses) depth 200 fits 100000

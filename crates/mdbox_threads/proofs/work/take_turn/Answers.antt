@@ -1,4 +1,5 @@
 use Rattle.std.proofs.Common.{◌≡◌, ◌≤◌, length, subst, sym, ap}
+use Rattle.turn_lock.specs.Seats.{seen_by}
 use Rattle.mdbox_threads.proofs.SeatLemmas.{one_charter, one_turn, turn_seen, under_along}
 use Rattle.mdbox_threads.proofs.work.take_turn.Goals as goal
 
@@ -19,4 +20,4 @@ returns-clause-ready g c = (c.give.ensures.free, c.give.ensures.same.1 _ _ (c.ta
 pub returns-clause-seen : goal.returns-clause-seen
 returns-clause-seen g c =
     let same = one_charter c.args.seat.now c.take-handed.result.first c.args.first.now.value c.take-handed.result.world.finished c.args.first.now.value.finished c.take-handed.ensures.charter c.requires.ready.1 in
-    turn_seen c.args.lane c.args.first.now.value.turn_room c.advance-turned.result c.take-handed.result c.advance-turned.new.self _ _ c.take-handed.ensures.trace c.give.ensures.seen (ap (λ w. w.turn_room) same) c.advance-turned.ensures.turned
+    turn_seen c.args.lane c.args.first.now.value.turn_room c.advance-turned.result c.take-handed.result c.advance-turned.new.self (seen_by c.args.seat.now) (seen_by c.give.new.seat) c.take-handed.ensures.trace c.give.ensures.seen (ap (λ w. w.turn_room) same) c.advance-turned.ensures.turned

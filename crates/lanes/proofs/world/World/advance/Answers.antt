@@ -6,7 +6,6 @@ use Rattle.serving.specs.Turns.{LaneTurn}
 use Rattle.lanes.specs.Rows.{LaneRow}
 use Rattle.lanes.specs.Worlds.{IsIdleLane, IsLaneEvent, WorldValue, turn_of, world_value}
 use Rattle.lanes.specs.declared.lane.Queued.{Queued}
-use Rattle.lanes.proofs.LeftLemmas.{left_from}
 use Rattle.lanes.proofs.SoundLemmas.{not_idle}
 use Rattle.lanes.proofs.TraceLemmas.{idle_turn, lane_turn}
 use Rattle.lanes.proofs.world.World.advance.Goals as goal
