@@ -63,14 +63,14 @@ pub fn follow(alloc: Global, text: &str) -> Result<Vec<&'static str>, Wrong> {
     Ok(lists.listed)
 }
 
-/// How many records a purge dropped: the one that no list names, or none, if its storage file was in use.
-pub fn dropped_in(text: &str) -> Result<u64, Wrong> {
+/// How many records there are afterwards: the purge dropped the one that no list names, or none, if its storage file was in use.
+pub fn records_after(text: &str) -> Result<u64, Wrong> {
     let purge = reply_to(text, 1)?;
     if purge.reply.starts_with("OK 1 ") {
-        Ok(1)
+        Ok(3)
     } else {
         must(purge.reply == "OK 0 0 0", "a purge")?;
-        Ok(0)
+        Ok(4)
     }
 }
 

@@ -1,5 +1,5 @@
 // A purge, a delivery, a fetch and a move on four lanes, in many orders.
-use crate::lists::{dropped_in, follow};
+use crate::lists::{follow, records_after};
 use crate::pauses::Ordered;
 use crate::runs::{Ran, copy_of, new_store, run_script};
 use crate::wrong::{Wrong, must};
@@ -81,7 +81,7 @@ fn play<R: Threads + Wait + Sync>(
         return Err(Wrong::Differs("no text"));
     };
     let listed = follow(alloc, text)?;
-    let records = 4 - dropped_in(text)?;
+    let records = records_after(text)?;
     let left = run_script(rt, alloc, ran.disk, "1", AFTER, &NoPause)?;
     let expected = seen_after(alloc, listed.as_slice(), records)?;
     must(
