@@ -51,7 +51,7 @@ more_later : (i : ℕ) (found : Option ℕ) → later_by i (option_map (λ k. 1 
 more_later i None = refl
 more_later i (Some k) = let e : i + (1 + k) ≡ i + 1 + k = omega arith in ap (λ (n : ℕ). Some n) e
 
-bad_first : (before room : ℕ) (ref : ExtRef) (refs : List ExtRef) → is_bad before room ref ≡ true → first_bad before room (ref ∷ refs) ≡ Some 0
+pub bad_first : (before room : ℕ) (ref : ExtRef) (refs : List ExtRef) → is_bad before room ref ≡ true → first_bad before room (ref ∷ refs) ≡ Some 0
 unfolding first_bad
 bad_first before room ref refs t = rw t refl
 

@@ -96,5 +96,5 @@ finish body rest refs instances i before out new r same h push =
     rw push (r.whole rest (rw (none, none') refl))
 
 -- the whole size is the length of the whole
-pub size_is : (whole body : List ℕ) (refs : List ExtRef) (instances : List (List ℕ)) (n stored sum : ℕ) → IsWhole whole body refs instances → stored ≡ length body → sum ≡ sum_by (λ ref. ref.count) refs → n ≡ stored + sum → length whole ≡ n
-size_is whole body refs instances n stored sum h a b e = omega (arith, whole_size 0 whole body refs instances h, a, b, e)
+pub size_is : (whole body : List ℕ) (refs : List ExtRef) (instances : List (List ℕ)) (n : ℕ) → IsWhole whole body refs instances → n ≡ length body + sum_by (λ ref. ref.count) refs → length whole ≡ n
+size_is whole body refs instances n h e = omega (arith, whole_size 0 whole body refs instances h, e)

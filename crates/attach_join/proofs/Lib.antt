@@ -1,5 +1,7 @@
 pub mod CheckLemmas
 pub mod IntoLemmas
 pub mod JoinLemmas
+pub mod OutsideLemmas
 pub mod RestoredLemmas
 pub mod RoomLemmas
+pub mod SpreadLemmas

@@ -1,15 +1,15 @@
 // What may be wrong with references and instances.
-ghost use Rattle.std.specs.Prelude.{◌≡◌, ◌≢◌, ◌⊎◌, ◌≤◌, ◌<◌, ◌^◌, ◌+◌, ◌-◌, ℕ, List, length, All, sum_by, if◌then◌else◌, None, Some, IsErrOf, IfOk, IfErr, IfSome, MatchResult, OnOk};
+ghost use Rattle.std.specs.Prelude.{◌≡◌, ◌⊎◌, ◌≤◌, ◌<◌, ◌^◌, ◌+◌, ◌-◌, ◌==◌, ℕ, List, length, All, sum_by, if◌then◌else◌, None, Some, IsErrOf, IfOk, IfErr, IfSome, OnOk};
 ghost use Rattle.model_attach.specs.declared.join_error.JoinError.TheVariants.{RangeBad, Compressed, SizeDiffers, NoMemory};
 ghost use Rattle.model_base64.specs.Base64Text.{IsForm};
-ghost use Rattle.model_attach.specs.Rejoined.{part_text, is_bad, first_bad, is_compressed, first_differs};
+ghost use Rattle.model_attach.specs.Rejoined.{part_text, is_bad, first_bad, found_size, is_compressed, first_differs, range_error};
 
 use b64_lines::text_length;
 use mdbox_base::{ExtRef, LineForm, Octets};
 use model_attach::JoinError;
 
 /// The sum of all counts, where each range is good. Else the first that is bad.
-pub fn counted(stored: u64, refs: &[ExtRef]) -> Result<u64, JoinError>
+fn counted(stored: u64, refs: &[ExtRef]) -> Result<u64, JoinError>
     requires { stored < 2 ^ 63 }
     ensures ok { IfOk result (λ sum. (first_bad 0 stored refs.now ≡ None) × (sum ≡ sum_by (λ ref. ref.count) refs.now)) }
     ensures err { IfErr result (λ e. (i : ℕ) × (first_bad 0 stored refs.now ≡ Some i) × (e ≡ RangeBad i)) }
@@ -37,17 +37,28 @@ fn is_out(before: u64, room: u64, reference: ExtRef) -> bool
     start < before || room + count < start + count || 4_294_967_295 < start + count
 }
 
-/// Whether the whole size is the one that was found.
-pub fn compare_sizes(body: &[u8], whole: u64, found: u64) -> Result<(), JoinError>
-    ensures { MatchResult result (λ _. whole ≡ found) (λ e. (whole ≢ found) × (e ≡ (if is_compressed body.now then Compressed else SizeDiffers whole found))) }
+/// Whether the ranges of references and the size of their whole fit so many stored octets. Else what is wrong first; where the
+/// body is a gzip stream, that it is one in place of its size.
+pub fn check_refs(stored: u64, whole: u64, refs: &[ExtRef], gzip: bool) -> Result<(), JoinError>
+    requires { stored < 2 ^ 63 }
+    ensures ok { OnOk result ((first_bad 0 stored refs.now ≡ None) × (whole ≡ found_size stored refs.now)) }
+    ensures err { IfErr result (λ e. range_error (first_bad 0 stored refs.now) (if whole == found_size stored refs.now then None else Some (if gzip then Compressed else SizeDiffers whole (found_size stored refs.now))) ≡ Some e) }
 {
+    let found = stored + counted(stored, refs)?;
     if whole == found {
-        return Ok(());
+        Ok(())
+    } else if gzip {
+        Err(JoinError::Compressed)
+    } else {
+        Err(JoinError::SizeDiffers { kept: whole, found })
     }
-    match body {
-        [0x1f, 0x8b, ..] => Err(JoinError::Compressed),
-        _ => Err(JoinError::SizeDiffers { kept: whole, found }),
-    }
+}
+
+/// Whether a body begins like a gzip stream.
+pub fn is_gzip(body: &[u8]) -> bool
+    ensures { result ≡ is_compressed body.now }
+{
+    matches!(body, [0x1f, 0x8b, ..])
 }
 
 /// Whether each reference's text is as long as its count. The first that isn't, else; one whose text is too long for

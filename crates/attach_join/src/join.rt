@@ -3,7 +3,7 @@ ghost use Rattle.std.specs.Prelude.{◌≡◌, ◌⊎◌, ◌≤◌, ◌<◌, �
 ghost use Rattle.model_base64.specs.Base64Text.{IsForm};
 ghost use Rattle.model_attach.specs.Rejoined.{IsWhole, part_text, first_bad, first_differs, join_error};
 
-use crate::check::{compare_sizes, compare_texts, counted};
+use crate::check::{check_refs, compare_texts, is_gzip};
 use b64_lines::push_lines;
 use mdbox_base::{ExtRef, LineForm, NoMemory, Octets, Seq};
 use model_attach::JoinError;
@@ -29,8 +29,7 @@ pub fn rejoin(
     let refs = refs.as_slice();
     let instances = instances.as_slice();
     let stored = body.len() as u64;
-    let sum = counted(stored, refs)?;
-    compare_sizes(body, whole, stored + sum)?;
+    check_refs(stored, whole, refs, is_gzip(body))?;
     compare_texts(refs, instances)?;
     let octets = join(alloc, body, whole as usize, refs, instances)?;
     Ok(octets)

@@ -15,7 +15,7 @@ pub written_start : (form : LineForm) (octets old : List ℕ) → IsWritten form
 written_start form octets old = record { text = refl; front = ([], sym (append-nil old)) }
 
 -- the octets of a full line, and more
-full_line : (form : LineForm) (rest line behind : List ℕ) → IsForm form → length line ≡ form.length / 4 * 3 → 0 < length behind → rest ≡ line ++ behind
+pub full_line : (form : LineForm) (rest line behind : List ℕ) → IsForm form → length line ≡ form.length / 4 * 3 → 0 < length behind → rest ≡ line ++ behind
     → text_of form rest ≡ padded line ++ (line_break form.crlf ++ text_of form behind)
 full_line form rest line behind good size some parts =
     let third : length line % 3 ≡ 0 = omega (arith, size) in

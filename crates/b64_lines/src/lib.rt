@@ -4,7 +4,9 @@
 pub use read::recognise;
 pub use size::{text_length, text_size};
 pub use write::{push_lines, write_lines};
+pub use writer::LineWriter;
 
 mod read;
 mod size;
 mod write;
+mod writer;

@@ -1,4 +1,5 @@
 pub mod PrefixLemmas
+pub mod AloneLemmas
 pub mod HeaderLemmas
 pub mod MessageLemmas
 pub mod RowLemmas

@@ -66,7 +66,7 @@ fn message(text: &[u8]) -> Result<(u64, &[u8]), Flaw>
 }
 
 /// The size of the body that the message header at the front tells, and what follows the header.
-fn message_header(text: &[u8]) -> Result<(u64, &[u8]), Flaw>
+pub fn message_header(text: &[u8]) -> Result<(u64, &[u8]), Flaw>
     ensures found { IfOk result (λ x. StandsFirst IsMessageHeader text.now x.0 x.1.now) }
     ensures flaw { IfErr result (Flawed IsMessageHeader text.now) }
 {
@@ -78,7 +78,7 @@ fn message_header(text: &[u8]) -> Result<(u64, &[u8]), Flaw>
 }
 
 /// What follows the block of metadata.
-fn behind_block(text: &[u8]) -> Result<&[u8], Flaw>
+pub fn behind_block(text: &[u8]) -> Result<&[u8], Flaw>
     ensures found { IfOk result (λ rest. FoundSome IsBlock text.now rest.now) }
     ensures flaw { IfErr result (Flawed IsBlock text.now) }
 {

@@ -1,8 +1,9 @@
 -- The whole of a message that was read.
-use Rattle.mail_fetch.proofs.Common.{◌≡◌, ◌≤◌, ◌+◌, ◌-◌, ℕ, List, [], ◌∷◌, length, take, drop, Some, None, refl, sym, ◌∙◌, ap, subst, arith, All, length-take, All-cons, All-nil, InstRow, FileNo, ExtRef, Message, Metadata, NameInstances, octets_to_read, HoldsWhole, IsStoredMessage, StoredAt}
+use Rattle.mail_fetch.proofs.Common.{◌≡◌, ◌≤◌, ◌<◌, ◌+◌, ◌++◌, ℕ, List, [], ◌∷◌, length, take, drop, Some, None, refl, sym, ◌∙◌, ap, subst, arith, All, length-append, length-take, inl, inr, cases_lt, All-cons, All-nil, InstRow, FileNo, ExtRef, Message, Metadata, NameInstances, octets_to_read, HoldsWhole, IsStoredMessage, StoredAt}
 use Rattle.std.specs.Prelude.{Option, IfNone, IfSome}
 use Rattle.std.specs.List.{AllByRecursion}
-use Rattle.std.proofs.lemmas.List.{drop-take, take-take}
+use Rattle.std.proofs.Math.Seq.{drop-append-add, take-append-add}
+use Rattle.std.proofs.lemmas.List.{take-take}
 use Rattle.attach_join.specs.Behind.{octets_in}
 use Rattle.mdbox_base.specs.declared.metadata.LineForm.{LineForm}
 use Rattle.mdbox_base.specs.declared.replies.Refusal.TheVariants as refusal
@@ -15,7 +16,8 @@ use Rattle.model_storage.specs.StorageFile.{Line}
 use Rattle.model_storage.proofs.FileLemmas.{message_same}
 use Rattle.model_storage.proofs.MetadataLemmas.{metadata_same}
 use Rattle.mail_fetch.specs.Region.{damage_at}
-use Rattle.mail_fetch.proofs.BodyLemmas.{FoundStored}
+use Rattle.mail_fetch.specs.Room.{IsCut}
+use Rattle.mail_fetch.proofs.BodyLemmas.{FoundStored, header_length}
 
 -- a region is one message, and says one thing
 pub record SameStored (from : StoredAt) (region : List ℕ) (a b : IsStoredMessage from region) : Type 0 where
@@ -44,47 +46,78 @@ references_fit : (lines : List Line) (refs : List ExtRef) → HasReferences line
 references_fit lines [] h = All-nil (λ (ref : ExtRef). IfSome ref.form IsForm)
 references_fit lines (ref ∷ refs) h = forms_fit (ref ∷ refs) h.2.fit
 
-pub forms_of_stored : (from : StoredAt) (region : List ℕ) (size : ℕ) (refs : List ExtRef) → FoundStored from region size refs → All (λ ref. IfSome ref.form IsForm) refs
-forms_of_stored from region size refs f = subst (All (λ (ref : ExtRef). IfSome ref.form IsForm)) (sym f.refs_are) (references_fit f.stored.message.lines f.stored.meta.refs f.stored.says.refs)
+pub forms_of_stored : (from : StoredAt) (head behind : List ℕ) (size : ℕ) (refs : List ExtRef) → FoundStored from head behind size refs → All (λ ref. IfSome ref.form IsForm) refs
+forms_of_stored from head behind size refs f = subst (All (λ (ref : ExtRef). IfSome ref.form IsForm)) (sym f.refs_are) (references_fit f.stored.message.lines f.stored.meta.refs f.stored.says.refs)
 
 -- ---- what was read
 
--- all of it was read, and its region is the message that is stored there
-pub record ReadStored (from : StoredAt) (read : List ℕ) (size : ℕ) (refs : List ExtRef) : Type 0 where
-  pub long : length read ≡ octets_to_read from
-  pub found : FoundStored from (take from.size read) size refs
+-- so many octets behind the header the region ends, and these are behind it
+pub record IsCutAt (from : StoredAt) (head read behind instances : List ℕ) : Type 0 where
+  pub long : length (head ++ read) ≡ octets_to_read from
+  pub region : take from.size (head ++ read) ≡ head ++ behind
+  pub rest : drop from.size (head ++ read) ≡ instances
 
-body_of : (read : List ℕ) (n size : ℕ) → 30 + size ≤ n → take size (drop 30 (take n read)) ≡ take size (drop 30 read)
-body_of read n size le =
-    ap (λ (k : ℕ). take size (drop 30 (take k read))) (let e : n ≡ 30 + (n - 30) = omega (arith, le) in e)
-    ∙ (ap (take size) (drop-take 30 (n - 30) read) ∙ take-take size (n - 30) (drop 30 read) (omega (arith, le)))
+-- a header that is whole
+pub head_whole : (from : StoredAt) (head read : List ℕ) → IsCut head read → 30 ≤ from.size → length head + length read ≡ octets_to_read from → length head ≡ 30
+head_whole from head read cut large long = elim (cases_lt (length head) 30) [
+  | inl short ↦ absurd (let none = ap length (cut.order short) in omega (arith, none, short, large, long))
+  | inr full ↦ omega (arith, full, cut.most)
+]
 
-region_size : (from : StoredAt) (read : List ℕ) → length read ≡ octets_to_read from → length (take from.size read) ≡ from.size
-region_size from read long = let h = length-take from.size read in omega (arith, h, long)
+pub cut_at : (from : StoredAt) (head read : List ℕ) (at : ℕ) → length head ≡ 30 → at + 30 ≡ from.size → length head + length read ≡ octets_to_read from → IsCutAt from head read (take at read) (drop at read)
+cut_at from head read at whole is long =
+    let size : from.size ≡ length head + at = omega (arith, whole, is) in
+    record {
+      long = length-append head read ∙ long;
+      region = ap (λ (n : ℕ). take n (head ++ read)) size ∙ take-append-add head read at;
+      rest = ap (λ (n : ℕ). drop n (head ++ read)) size ∙ drop-append-add head read at;
+    }
 
-pub body_read : (from : StoredAt) (read : List ℕ) (size : ℕ) (refs : List ExtRef) → (r : ReadStored from read size refs) → take size (drop 30 read) ≡ r.found.stored.message.body
-body_read from read size refs r =
-    let within = r.found.within in
-    let n = region_size from read r.long in
-    sym (body_of read from.size size (omega (arith, within, n))) ∙ r.found.body
+holds : (from : StoredAt) (read region instances octets : List ℕ) → length read ≡ octets_to_read from → take from.size read ≡ region → drop from.size read ≡ instances → (s : IsStoredMessage from region)
+    → IsWhole octets s.message.body s.meta.refs (octets_in from.instances instances) → length octets ≡ from.listed → HoldsWhole from read octets
+holds from read region instances octets long front back =
+    subst (λ (xs : List ℕ). (s : IsStoredMessage from xs) → IsWhole octets s.message.body s.meta.refs (octets_in from.instances instances) → length octets ≡ from.listed → HoldsWhole from read octets) front
+    (λ s whole size. record { long = long; stored = s; whole = subst (λ (xs : List ℕ). IsWhole octets s.message.body s.meta.refs (octets_in from.instances xs)) (sym back) whole; size = size })
+
+held : (from : StoredAt) (read region instances octets : List ℕ) → take from.size read ≡ region → drop from.size read ≡ instances → HoldsWhole from read octets
+    → (s : IsStoredMessage from region) × IsWhole octets s.message.body s.meta.refs (octets_in from.instances instances)
+held from read region instances octets front back h =
+    subst (λ (xs : List ℕ). (s : IsStoredMessage from xs) × IsWhole octets s.message.body s.meta.refs (octets_in from.instances instances)) front
+    (h.stored, subst (λ (xs : List ℕ). IsWhole octets h.stored.message.body h.stored.meta.refs (octets_in from.instances xs)) back h.whole)
+
+pub none_stored : (from : StoredAt) (head read behind instances octets : List ℕ) → IsCutAt from head read behind instances → (IsStoredMessage from (head ++ behind) → ⊥) → HoldsWhole from (head ++ read) octets → ⊥
+none_stored from head read behind instances octets at none h = none (held from (head ++ read) (head ++ behind) instances octets at.region at.rest h).0
+
+-- no message is as short
+pub too_short : (from : StoredAt) (read octets : List ℕ) → from.size < 30 → HoldsWhole from read octets → ⊥
+too_short from read octets short h =
+    let p = h.stored.spelled in
+    let size = ap length p.spelled in
+    let parts = length-append p.header (h.stored.message.body ++ p.block) in
+    let head = header_length p.header (length h.stored.message.body) p.begins in
+    let most = length-take from.size read in
+    omega (arith, size, parts, head, most, short)
 
 -- ---- joined with its instances
 
-pub holds_joined : (from : StoredAt) (read octets : List ℕ) (size : ℕ) (refs : List ExtRef) → ReadStored from read size refs → IsWhole octets (take size (drop 30 read)) refs (octets_in from.instances (drop from.size read)) → length octets ≡ from.listed → HoldsWhole from read octets
-holds_joined from read octets size refs r whole listed = record {
-  long = r.long;
-  stored = r.found.stored;
-  whole =
-      subst (λ (b : List ℕ). IsWhole octets b r.found.stored.meta.refs (octets_in from.instances (drop from.size read))) (body_read from read size refs r)
-      (subst (λ (rs : List ExtRef). IsWhole octets (take size (drop 30 read)) rs (octets_in from.instances (drop from.size read))) r.found.refs_are whole);
-  size = listed;
-}
+pub holds_joined : (from : StoredAt) (head read behind instances octets : List ℕ) (size : ℕ) (refs : List ExtRef) → IsCutAt from head read behind instances → FoundStored from head behind size refs
+    → IsWhole octets (take size behind) refs (octets_in from.instances instances) × (length octets ≡ from.listed) → HoldsWhole from (head ++ read) octets
+holds_joined from head read behind instances octets size refs at f w =
+    holds from (head ++ read) (head ++ behind) instances octets at.long at.region at.rest f.stored
+    (subst (λ (b : List ℕ). IsWhole octets b f.stored.meta.refs (octets_in from.instances instances)) f.body
+    (subst (λ (rs : List ExtRef). IsWhole octets (take size behind) rs (octets_in from.instances instances)) f.refs_are w.0)) w.1
 
-pub joined_of_whole : (from : StoredAt) (read octets : List ℕ) (size : ℕ) (refs : List ExtRef) → ReadStored from read size refs → HoldsWhole from read octets → IsWhole octets (take size (drop 30 read)) refs (octets_in from.instances (drop from.size read))
-joined_of_whole from read octets size refs r h =
-    let same = same_stored from (take from.size read) h.stored r.found.stored in
-    subst (λ (b : List ℕ). IsWhole octets b refs (octets_in from.instances (drop from.size read))) (ap (λ (m : Message). m.body) same.message ∙ sym (body_read from read size refs r))
-    (subst (λ (rs : List ExtRef). IsWhole octets h.stored.message.body rs (octets_in from.instances (drop from.size read))) (ap (λ (m : Metadata). m.refs) same.meta ∙ sym r.found.refs_are) h.whole)
+joined_of_whole : (from : StoredAt) (head read behind instances octets : List ℕ) (size : ℕ) (refs : List ExtRef) → IsCutAt from head read behind instances → FoundStored from head behind size refs
+    → HoldsWhole from (head ++ read) octets → IsWhole octets (take size behind) refs (octets_in from.instances instances)
+joined_of_whole from head read behind instances octets size refs at f h =
+    let (stored, whole) = held from (head ++ read) (head ++ behind) instances octets at.region at.rest h in
+    let same = same_stored from (head ++ behind) stored f.stored in
+    subst (λ (b : List ℕ). IsWhole octets b refs (octets_in from.instances instances)) (ap (λ (m : Message). m.body) same.message ∙ sym f.body)
+    (subst (λ (rs : List ExtRef). IsWhole octets stored.message.body rs (octets_in from.instances instances)) (ap (λ (m : Metadata). m.refs) same.meta ∙ sym f.refs_are) whole)
+
+pub none_joined : (from : StoredAt) (head read behind instances octets : List ℕ) (size : ℕ) (refs : List ExtRef) → IsCutAt from head read behind instances → FoundStored from head behind size refs
+    → ((text : List ℕ) → IsWhole text (take size behind) refs (octets_in from.instances instances) → length text ≡ from.listed → ⊥) → HoldsWhole from (head ++ read) octets → ⊥
+none_joined from head read behind instances octets size refs at f none h = none octets (joined_of_whole from head read behind instances octets size refs at f h) h.size
 
 -- ---- without instances
 
@@ -93,49 +126,53 @@ no_refs [] rows h e = refl
 no_refs (r ∷ refs) [] h e = absurd h
 no_refs (r ∷ refs) (row ∷ rows) h e = absurd (cc e)
 
-pub refs_alone : (from : StoredAt) (read : List ℕ) (size : ℕ) (refs : List ExtRef) → ReadStored from read size refs → from.instances ≡ [] → refs ≡ []
-refs_alone from read size refs r alone = r.found.refs_are ∙ no_refs r.found.stored.meta.refs from.instances r.found.stored.names alone
+refs_alone : (from : StoredAt) (head behind : List ℕ) (size : ℕ) (refs : List ExtRef) → FoundStored from head behind size refs → from.instances ≡ [] → refs ≡ []
+refs_alone from head behind size refs f alone = f.refs_are ∙ no_refs f.stored.meta.refs from.instances f.stored.names alone
 
-pub holds_alone : (from : StoredAt) (read octets : List ℕ) (size : ℕ) (refs : List ExtRef) → ReadStored from read size refs → from.instances ≡ [] → size ≡ from.listed → octets ≡ take size (drop 30 read) → HoldsWhole from read octets
-holds_alone from read octets size refs r alone listed is =
-    holds_joined from read octets size refs r
-    (subst (λ (rows : List InstRow). IsWhole octets (take size (drop 30 read)) refs (octets_in rows (drop from.size read))) (sym alone)
-    (subst (λ (rs : List ExtRef). IsWhole octets (take size (drop 30 read)) rs []) (sym (refs_alone from read size refs r alone)) is))
-    (ap (λ (xs : List ℕ). length xs) (is ∙ body_read from read size refs r) ∙ (sym r.found.size_is ∙ listed))
+pub holds_alone : (from : StoredAt) (head read behind instances octets : List ℕ) (size at : ℕ) (refs : List ExtRef) → IsCutAt from head read behind instances → behind ≡ take at read → FoundStored from head behind size refs → from.instances ≡ []
+    → size ≡ from.listed → octets ≡ take size read → HoldsWhole from (head ++ read) octets
+holds_alone from head read behind instances octets size at refs cut behind_is f alone listed is =
+    let within = f.within in
+    let body : octets ≡ take size behind = is ∙ (sym (take-take size at read (let long = ap length behind_is in let most = length-take at read in omega (arith, long, most, within))) ∙ ap (take size) (sym behind_is)) in
+    holds_joined from head read behind instances octets size refs cut f (
+      subst (λ (rows : List InstRow). IsWhole octets (take size behind) refs (octets_in rows instances)) (sym alone)
+          (subst (λ (rs : List ExtRef). IsWhole octets (take size behind) rs []) (sym (refs_alone from head behind size refs f alone)) body),
+      ap (λ (xs : List ℕ). length xs) (body ∙ f.body) ∙ (sym f.size_is ∙ listed),
+    )
 
-pub listed_alone : (from : StoredAt) (read octets : List ℕ) (size : ℕ) (refs : List ExtRef) → ReadStored from read size refs → from.instances ≡ [] → HoldsWhole from read octets → size ≡ from.listed
-listed_alone from read octets size refs r alone h =
-    let joined = joined_of_whole from read octets size refs r h in
-    let plain : IsWhole octets (take size (drop 30 read)) [] [] =
-    subst (λ (rs : List ExtRef). IsWhole octets (take size (drop 30 read)) rs []) (refs_alone from read size refs r alone)
-    (subst (λ (rows : List InstRow). IsWhole octets (take size (drop 30 read)) refs (octets_in rows (drop from.size read))) alone joined) in
-    let is : octets ≡ take size (drop 30 read) = plain in
-    r.found.size_is ∙ (sym (ap (λ (xs : List ℕ). length xs) (is ∙ body_read from read size refs r)) ∙ h.size)
+pub listed_alone : (from : StoredAt) (head read behind instances octets : List ℕ) (size : ℕ) (refs : List ExtRef) → IsCutAt from head read behind instances → FoundStored from head behind size refs → from.instances ≡ []
+    → HoldsWhole from (head ++ read) octets → size ≡ from.listed
+listed_alone from head read behind instances octets size refs at f alone h =
+    let joined = joined_of_whole from head read behind instances octets size refs at f h in
+    let plain : IsWhole octets (take size behind) [] [] =
+    subst (λ (rs : List ExtRef). IsWhole octets (take size behind) rs []) (refs_alone from head behind size refs f alone)
+    (subst (λ (rows : List InstRow). IsWhole octets (take size behind) refs (octets_in rows instances)) alone joined) in
+    let is : octets ≡ take size behind = plain in
+    f.size_is ∙ (sym (ap (λ (xs : List ℕ). length xs) (is ∙ f.body)) ∙ h.size)
 
 -- ---- as they are read and replied
 
-pub found_in : (from : StoredAt) (read there region : List ℕ) (size : ℕ) (refs : List ExtRef) → length read ≡ octets_to_read from → there ≡ read → region ≡ take from.size there
-    → (30 + size ≤ length region) × ((s : IsStoredMessage from region) × (take size (drop 30 region) ≡ s.message.body) × (size ≡ length s.message.body) × (refs ≡ s.meta.refs)) → ReadStored from read size refs
-found_in from read there region size refs long same at h = record {
-  long = long;
-  found = subst (λ (r : List ℕ). FoundStored from r size refs) (at ∙ ap (take from.size) same) (record { within = h.0; stored = h.1.0; body = h.1.1; size_is = h.1.2; refs_are = h.1.3 });
-}
+pub found_in : (from : StoredAt) (head there behind : List ℕ) (size : ℕ) (refs : List ExtRef) → there ≡ behind
+    → (size ≤ length there) × ((s : IsStoredMessage from (head ++ there)) × (take size there ≡ s.message.body) × (size ≡ length s.message.body) × (refs ≡ s.meta.refs)) → FoundStored from head behind size refs
+found_in from head there behind size refs is h = subst (λ (r : List ℕ). FoundStored from head r size refs) is (record { within = h.0; stored = h.1.0; body = h.1.1; size_is = h.1.2; refs_are = h.1.3 })
 
-pub none_in : (from : StoredAt) (read there region octets : List ℕ) → there ≡ read → region ≡ take from.size there → (IsStoredMessage from region → ⊥) → HoldsWhole from read octets → ⊥
-none_in from read there region octets same at none h = none (subst (IsStoredMessage from) (sym (at ∙ ap (take from.size) same)) h.stored)
+-- body, instances and references, as they are handed on
+abbrev IsJoinedText : StoredAt → List ℕ → List ℕ → List ℕ → List ExtRef → Type 0
+IsJoinedText from octets body rest named = IsWhole octets body named (octets_in from.instances rest)
 
-pub holds_joined_as : (from : StoredAt) (read there octets : List ℕ) (size : ℕ) (refs named : List ExtRef) → there ≡ read → named ≡ refs → ReadStored from read size refs → IsWhole octets (take size (drop 30 there)) named (octets_in from.instances (drop from.size there)) × (length octets ≡ from.listed) → HoldsWhole from read octets
-holds_joined_as from read there octets size refs named same names r h =
-    holds_joined from read octets size refs r
-    (subst (λ (xs : List ℕ). IsWhole octets (take size (drop 30 xs)) refs (octets_in from.instances (drop from.size xs))) same
-    (subst (λ (rs : List ExtRef). IsWhole octets (take size (drop 30 there)) rs (octets_in from.instances (drop from.size there))) names h.0)) h.1
+joined_same : (from : StoredAt) (octets body text rest instances : List ℕ) (refs named : List ExtRef) → text ≡ body → rest ≡ instances → named ≡ refs → IsJoinedText from octets text rest named ≡ IsJoinedText from octets body instances refs
+joined_same from octets body text rest instances refs named a b n =
+    ap (λ (t : List ℕ). IsJoinedText from octets t rest named) a ∙ (ap (λ (t : List ℕ). IsJoinedText from octets body t named) b ∙ ap (IsJoinedText from octets body instances) n)
 
-pub none_joined_as : (from : StoredAt) (read there octets : List ℕ) (size : ℕ) (refs named : List ExtRef) → there ≡ read → named ≡ refs → ReadStored from read size refs
-    → ((text : List ℕ) → IsWhole text (take size (drop 30 there)) named (octets_in from.instances (drop from.size there)) → length text ≡ from.listed → ⊥) → HoldsWhole from read octets → ⊥
-none_joined_as from read there octets size refs named same names r none h =
-    none octets
-    (subst (λ (rs : List ExtRef). IsWhole octets (take size (drop 30 there)) rs (octets_in from.instances (drop from.size there))) (sym names)
-    (subst (λ (xs : List ℕ). IsWhole octets (take size (drop 30 xs)) refs (octets_in from.instances (drop from.size xs))) (sym same) (joined_of_whole from read octets size refs r h))) h.size
+pub holds_joined_as : (from : StoredAt) (head read behind instances octets text rest : List ℕ) (size : ℕ) (refs named : List ExtRef) → IsCutAt from head read behind instances → FoundStored from head behind size refs
+    → text ≡ take size behind → rest ≡ instances → named ≡ refs → IsWhole octets text named (octets_in from.instances rest) × (length octets ≡ from.listed) → HoldsWhole from (head ++ read) octets
+holds_joined_as from head read behind instances octets text rest size refs named at f a b n w =
+    holds_joined from head read behind instances octets size refs at f (subst (λ (X : Type 0). X) (joined_same from octets (take size behind) text rest instances refs named a b n) w.0, w.1)
+
+pub none_joined_as : (from : StoredAt) (head read behind instances octets text rest : List ℕ) (size : ℕ) (refs named : List ExtRef) → IsCutAt from head read behind instances → FoundStored from head behind size refs
+    → text ≡ take size behind → rest ≡ instances → named ≡ refs → ((whole : List ℕ) → IsWhole whole text named (octets_in from.instances rest) → length whole ≡ from.listed → ⊥) → HoldsWhole from (head ++ read) octets → ⊥
+none_joined_as from head read behind instances octets text rest size refs named at f a b n none h =
+    none_joined from head read behind instances octets size refs at f (λ whole w. none whole (subst (λ (X : Type 0). X) (sym (joined_same from whole (take size behind) text rest instances refs named a b n)) w)) h
 
 pub some_map : {X : Type 0} → (r : Option X) (P Q : X → Type 0) → ((x : X) → P x → Q x) → IfSome r P → IfSome r Q
 some_map None P Q f h = tt

@@ -1,5 +1,5 @@
 // The message in the octets that a fetch has read.
-ghost use Rattle.std.specs.Prelude.{◌≡◌, ◌≤◌, ◌+◌, ◌↔◌, ℕ, List, [], All, IsTrue, length, take, drop, vec_capacity, IfSome, IfNone, Some};
+ghost use Rattle.std.specs.Prelude.{◌≡◌, ◌≤◌, ◌+◌, ◌++◌, ◌↔◌, ℕ, List, [], All, IsTrue, length, take, drop, vec_capacity, IfSome, IfNone, Some};
 ghost use Rattle.std.specs.Option.{option_map_or};
 ghost use Rattle.attach_join.specs.Behind.{octets_in};
 ghost use Rattle.model_attach.specs.Rejoined.{IsWhole};
@@ -7,77 +7,77 @@ ghost use Rattle.model_base64.specs.Base64Text.{IsForm};
 ghost use Rattle.model_store.specs.Stands.{NameInstances};
 ghost use Rattle.mail_fetch.specs.Parts.{octets_to_read};
 ghost use Rattle.mail_fetch.specs.Region.{HoldsWhole, IsStoredMessage, IsToldByLines};
-ghost use Rattle.mail_fetch.specs.Room.{HasJoinRoom};
+ghost use Rattle.mail_fetch.specs.Room.{HasJoinRoom, IsCut};
 
 use crate::parts::StoredAt;
 use attach_join::rejoin_into;
-use dbox_file::message_at;
+use dbox_file::{header_size, lines_in};
 use dbox_metadata::{Brief, read_brief};
 use mdbox_base::{ExtRef, Guid, InstRow};
 
 /// How many octets a message's header has.
-const HEADER: usize = 30;
+pub const HEADER: usize = 30;
 
-/// The octets of the message that was read: region and instances, one behind another. None if and only if it isn't the one that is
-/// stored there. It takes no memory: the body of a message without attachments is moved to the front where it lies, else
-/// region and instances are joined in `whole`.
+/// The octets of the message that was read: its header, and behind it the rest of the region and the instances, one behind another.
+/// None if and only if it isn't the one that is stored there. It takes no memory: the body of a message without attachments stays
+/// where it lies, else region and instances are joined in `whole`.
 pub fn message_of(
     from: &StoredAt,
+    head: &[u8],
     read: Vec<u8>,
     total: usize,
     refs: Vec<ExtRef>,
     whole: Vec<u8>,
 ) -> Option<Vec<u8>>
+    requires cut { IsCut head.now read.items }
     requires total { total ≡ octets_to_read from.now }
     requires room { HasJoinRoom from.now refs whole }
-    ensures some { IfSome result (λ octets. HoldsWhole from.now read.items octets.items) }
-    ensures none { IfNone result ((octets : List ℕ) → HoldsWhole from.now read.items octets → ⊥) }
+    ensures some { IfSome result (λ octets. HoldsWhole from.now (head.now ++ read.items) octets.items) }
+    ensures none { IfNone result ((octets : List ℕ) → HoldsWhole from.now (head.now ++ read.items) octets → ⊥) }
 {
-    if read.len() != total {
+    let behind = (from.size as usize).checked_sub(HEADER)?;
+    if head.len() + read.len() != total {
         return None;
     }
-    let (size, refs) = stored_message(from, &read[..from.size as usize], refs)?;
+    let (size, refs) = stored_message(from, head, &read[..behind], refs)?;
     if from.instances.length() == 0 {
         body_alone(read, size, from.listed as usize)
     } else {
-        rejoined(from, &read, size, &refs, whole)
+        let (region, instances) = read.split_at(behind);
+        rejoined(from, &region[..size], instances, &refs, whole)
     }
 }
 
 /// The body of a message without attachments, if it has the size that is told.
 fn body_alone(read: Vec<u8>, size: usize, listed: usize) -> Option<Vec<u8>>
-    requires { 30 + size ≤ length read.items }
-    ensures some { IfSome result (λ octets. (size ≡ listed) × (octets.items ≡ take size (drop 30 read.items))) }
+    requires { size ≤ length read.items }
+    ensures some { IfSome result (λ octets. (size ≡ listed) × (octets.items ≡ take size read.items)) }
     ensures none { IfNone result (size ≡ listed → ⊥) }
 {
     if size != listed {
         return None;
     }
     let mut octets = read;
-    octets.copy_within(HEADER..HEADER + size, 0);
     octets.truncate(size);
     Some(octets)
 }
 
-/// The whole of a region's body, which has so many octets, its references, and the instances behind the region.
+/// The whole of a region's body, its references, and the instances, one behind another.
 fn rejoined(
     from: &StoredAt,
-    read: &[u8],
-    size: usize,
+    body: &[u8],
+    instances: &[u8],
     refs: &[ExtRef],
     whole: Vec<u8>,
 ) -> Option<Vec<u8>>
-    requires read { length read.now ≡ octets_to_read from.now }
-    requires body { 30 + size ≤ from.now.size }
+    requires read { from.now.size + length instances.now ≡ octets_to_read from.now }
     requires forms { All (λ ref. IfSome ref.form IsForm) refs.now }
     requires empty { whole.items ≡ [] }
     requires room { from.now.listed ≤ vec_capacity whole }
-    ensures some { IfSome result (λ octets. IsWhole octets.items (take size (drop 30 read.now)) refs.now (octets_in from.now.instances (drop from.now.size read.now)) × (length octets.items ≡ from.now.listed)) }
-    ensures none { IfNone result ((octets : List ℕ) → IsWhole octets (take size (drop 30 read.now)) refs.now (octets_in from.now.instances (drop from.now.size read.now)) → length octets ≡ from.now.listed → ⊥) }
+    ensures some { IfSome result (λ octets. IsWhole octets.items body.now refs.now (octets_in from.now.instances instances.now) × (length octets.items ≡ from.now.listed)) }
+    ensures none { IfNone result ((octets : List ℕ) → IsWhole octets body.now refs.now (octets_in from.now.instances instances.now) → length octets ≡ from.now.listed → ⊥) }
 {
     let mut whole = whole;
-    let body = &read[HEADER..HEADER + size];
-    let instances = &read[from.size as usize..];
     let rows = from.instances.as_slice();
     if rejoin_into(
         &mut whole,
@@ -93,23 +93,27 @@ fn rejoined(
     }
 }
 
-/// How many octets the body of the one message has that a region is, and its references, where it is the one that is stored there.
-fn stored_message(from: &StoredAt, region: &[u8], refs: Vec<ExtRef>) -> Option<(usize, Vec<ExtRef>)>
-    requires size { length region.now ≡ from.now.size }
+/// How many octets the body of the one message has that a header and what follows it are, and its references, where it is the one
+/// that is stored there.
+fn stored_message(
+    from: &StoredAt,
+    head: &[u8],
+    behind: &[u8],
+    refs: Vec<ExtRef>,
+) -> Option<(usize, Vec<ExtRef>)>
+    requires head { length head.now ≡ 30 }
     requires empty { refs.items ≡ [] }
     requires room { length from.now.instances ≤ vec_capacity refs }
-    ensures some { IfSome result (λ x. (30 + x.0 ≤ length region.now) × ((s : IsStoredMessage from.now region.now) × (take x.0 (drop 30 region.now) ≡ s.message.body) × (x.0 ≡ length s.message.body) × (x.1.items ≡ s.meta.refs))) }
-    ensures none { IfNone result (IsStoredMessage from.now region.now → ⊥) }
+    ensures some { IfSome result (λ x. (x.0 ≤ length behind.now) × ((s : IsStoredMessage from.now (head.now ++ behind.now)) × (take x.0 behind.now ≡ s.message.body) × (x.0 ≡ length s.message.body) × (x.1.items ≡ s.meta.refs))) }
+    ensures none { IfNone result (IsStoredMessage from.now (head.now ++ behind.now) → ⊥) }
 {
-    let place = message_at(region, 0).ok()?;
-    if place.end != region.len() as u64 {
+    let size = header_size(head)?;
+    let (_, block) = behind.split_at_checked(size as usize)?;
+    let brief = read_brief(lines_in(block)?, refs)?;
+    if !is_told(&brief, from, u64::from(size)) {
         return None;
     }
-    let brief = read_brief(&region[place.lines as usize..region.len() - 1], refs)?;
-    if !is_told(&brief, from, place.size) {
-        return None;
-    }
-    Some((place.size as usize, brief.refs))
+    Some((size as usize, brief.refs))
 }
 
 /// Whether the lines of a message, whose body has so many octets, tell what is kept of it.

@@ -1,5 +1,5 @@
 // What a fetch reads of a message, part by part.
-ghost use Rattle.std.specs.Prelude.{◌≡◌, ◌≤◌, ◌<◌, ◌++◌, ◌∷◌, [], length, filter, take, drop, All, IfOk, IfSome, OnOk, IsErr};
+ghost use Rattle.std.specs.Prelude.{◌≡◌, ◌≤◌, ◌<◌, ◌++◌, ◌∷◌, [], length, min, filter, take, drop, All, IfOk, IfSome, OnOk, IsErr};
 ghost use Rattle.disk_model.specs.Disk.{IfTold, IsIdle};
 ghost use Rattle.disk_model.specs.FaultCounts.{NoFault, ReadFaultCounted};
 ghost use Rattle.model_store.specs.Settled.{files_of};
@@ -86,7 +86,7 @@ pub fn octets_to_read(from: &StoredAt) -> Option<usize>
 }
 
 /// Reads the front of a part, as many octets as `into` has, and answers how many the file has there.
-pub fn read_front<D: Disk>(
+fn read_front<D: Disk>(
     store: &mut Store<D>,
     part: Part,
     into: &mut [u8],
@@ -106,6 +106,26 @@ pub fn read_front<D: Disk>(
             Err(_fault) => Err(DiskFault),
         },
     }
+}
+
+/// Reads the first piece of a part into a block, and answers how many octets the file has there.
+pub fn read_first<D: Disk>(
+    store: &mut Store<D>,
+    part: Part,
+    block: &mut [u8],
+) -> Result<usize, DiskFault>
+    requires known { KnowsSource store.old.instances.known part.source }
+    requires block { length block.old ≡ 65536 }
+    ensures count { IfOk result (λ n. (n ≤ min 65536 part.size) × (n ≤ length block.new)) }
+    ensures piece { IfOk result (λ n. IfTold (D.history store.old.disk) (λ now. take n block.new ≡ part_read (files_of now) (record part { size = min 65536 part.size }))) }
+    ensures block { length block.new ≡ 65536 }
+    ensures same { store.new ≡ record store.old { disk = store.new.disk } }
+    ensures idle { IsIdle (D.history store.old.disk) (D.history store.new.disk) }
+    ensures fault { ReadFaultCounted (IsErr result) (D.faults store.old.disk) (D.faults store.new.disk) }
+    ensures unfailed { OnOk result (NoFault (D.faults store.old.disk) (D.faults store.new.disk)) }
+{
+    let size = part.size.min(PIECE) as usize;
+    read_front(store, part, &mut block[..size])
 }
 
 /// Goes past the first piece of the parts from a place on, and answers where those begin that are left.

@@ -1,5 +1,5 @@
 -- A world that workers hand on: what a turn leaves of it.
-use Rattle.std.proofs.Common.{◌≡◌, ◌≤◌, ◌<◌, ℕ, true, false, List, [], ◌∷◌, ◌++◌, Option, refl, sym, ap, subst, inl, inr}
+use Rattle.std.proofs.Common.{◌≡◌, ◌≤◌, ℕ, true, false, List, [], ◌∷◌, ◌++◌, Option, refl, sym, ap, subst, inl, inr}
 use Rattle.std.specs.Prelude.{length}
 use Rattle.disk_model.specs.Disk.{Faults, History}
 use Rattle.serving.specs.Turns.{LaneTurn}

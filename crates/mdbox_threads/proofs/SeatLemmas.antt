@@ -1,9 +1,8 @@
 -- What a worker's seat knows, and what all seats know once the workers are done.
-use Rattle.std.proofs.Common.{◌≡◌, ℕ, zero, suc, ◌+◌, ◌-◌, ◌<◌, ◌≤◌, ◌⊎◌, inl, inr, Bool, true, false, List, [], ◌∷◌, ◌++◌, All, length, map, slice_index_or, sym, refl, ap, ◌∙◌, subst, ⊎_elim, arith}
+use Rattle.std.proofs.Common.{◌≡◌, ℕ, suc, ◌+◌, ◌-◌, ◌<◌, ◌≤◌, ◌⊎◌, inl, inr, Bool, true, false, List, [], ◌∷◌, ◌++◌, All, length, map, slice_index_or, sym, refl, ap, ◌∙◌, subst, ⊎_elim, arith}
 use Rattle.std.specs.Prelude.{sum_by}
 use Rattle.std.proofs.lemmas.List.{length-map}
 use Rattle.std.proofs.lemmas.List.Sums.{sum_by-cons}
-use Rattle.serving.specs.Turns.{LaneTurn}
 use Rattle.turn_lock.specs.LockRule.{StartsWith}
 use Rattle.turn_lock.specs.Seats.{IsFreeSeat, IsOneTurnAtMost, IsUnder, KnowsAt, parts_with, seen_by}
 use Rattle.turn_lock.specs.declared.place.Place.{Place}

@@ -1,5 +1,5 @@
 -- Traces that go on from what was seen.
-use Rattle.std.proofs.Common.{◌≡◌, ℕ, List, [], ◌∷◌, ◌++◌, sym, ap, ◌∙◌, append_assoc, append-nil, ⊎_elim}
+use Rattle.std.proofs.Common.{ℕ, List, [], ◌∷◌, ◌++◌, sym, ap, ◌∙◌, append_assoc, append-nil, ⊎_elim}
 use Rattle.turn_lock.specs.LockRule.{StartsWith, StartsWithEach}
 use Rattle.turn_lock.specs.Seats.{IsOneTurnAtMost}
 

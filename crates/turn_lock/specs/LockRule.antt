@@ -1,7 +1,7 @@
 -- The rule of a lock's table.
 -- Word 0 counts the tickets that were drawn, word 1 the turns that have ended, both modulo 2 ^ 64. Seats sleep on the words after
 -- these, of which nothing is said. The one slot has the world, except while a seat has the turn.
-use Rattle.std.specs.Prelude.{◌≡◌, ℕ, ◌+◌, ◌%◌, ◌<◌, ◌≤◌, ◌⊎◌, Bool, List, [], ◌∷◌, ◌++◌, All, Option, Some, sum_by}
+use Rattle.std.specs.Prelude.{◌≡◌, ℕ, ◌+◌, ◌%◌, ◌<◌, ◌≤◌, ◌⊎◌, Bool, List, [], ◌∷◌, ◌++◌, Option, Some, sum_by}
 use mathlib.Core.Option.{none, some}
 use mathlib.Core.Option as maybe
 use lib.ListN.{get_elem?}

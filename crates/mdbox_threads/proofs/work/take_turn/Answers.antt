@@ -1,4 +1,4 @@
-use Rattle.std.proofs.Common.{◌≡◌, ◌≤◌, length, subst, sym, ap}
+use Rattle.std.proofs.Common.{◌≤◌, length, subst, sym, ap}
 use Rattle.turn_lock.specs.Seats.{seen_by}
 use Rattle.mdbox_threads.proofs.SeatLemmas.{one_charter, one_turn, turn_seen, under_along}
 use Rattle.mdbox_threads.proofs.work.take_turn.Goals as goal
