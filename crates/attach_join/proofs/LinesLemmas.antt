@@ -1,9 +1,10 @@
 -- Text that is written piece by piece, behind what is there.
-use Rattle.std.specs.Prelude.{◌≡◌, ◌≤◌, ◌+◌, ◌-◌, ◌*◌, ◌/◌, ◌++◌, ℕ, List, [], length, take, drop}
-use Rattle.std.proofs.Common.{refl, sym, ◌∙◌, ap, subst, arith, append-nil, length-append}
+use Rattle.std.specs.Prelude.{◌≡◌, ◌≤◌, ◌+◌, ◌-◌, ◌*◌, ◌/◌, ◌++◌, ℕ, List, [], length, take, drop, vec_capacity}
+use Rattle.std.proofs.Common.{refl, sym, ◌∙◌, ap, subst, arith, append-nil, append_assoc, length-append}
 use Rattle.std.proofs.Math.Nat.{div-le_self}
 use Rattle.std.proofs.Math.Seq.{drop-append_seam, take-append_seam}
 use Rattle.std.proofs.lemmas.List.{drop-append-le, drop-take, drop_all, length-take, length-drop, take-append-drop, take-append-le, take-take, take_all}
+use Rattle.std.specs.Global.{Vec}
 use Rattle.mdbox_base.specs.declared.metadata.LineForm.{LineForm}
 use Rattle.model_base64.specs.Base64Text.{IsForm, line_break, text_of}
 use Rattle.b64_lines.proofs.SizeLemmas.{text_is}
@@ -111,3 +112,19 @@ behind_there out start = take_all (length out - start) (drop start out) (let n =
 -- a vector whose octets were written over
 pub vec_now : (new old : List ℕ) (len : ℕ) → length new ≡ len → take len (new ++ drop (length new) old) ≡ new
 vec_now new old len is = ap (λ (n : ℕ). take n (new ++ drop (length new) old)) (sym is) ∙ take-append_seam new (drop (length new) old)
+
+-- octets were added, up to a place at the most
+pub record IsFilling (old now : Vec ℕ) (end : ℕ) : Type 0 where
+  pub added : (more : List ℕ) × (now.items ≡ old.items ++ more)
+  pub most : length now.items ≤ end
+  pub kept : vec_capacity old ≤ vec_capacity now
+
+pub filling_begins : (old : Vec ℕ) (end : ℕ) → length old.items ≤ end → IsFilling old old end
+filling_begins old end most = record { added = ([], sym (append-nil old.items)); most = most; kept = omega arith }
+
+pub filling_goes_on : (old now next : Vec ℕ) (end : ℕ) (more : List ℕ) → IsFilling old now end → next.items ≡ now.items ++ more → length now.items + length more ≤ end → vec_capacity now ≤ vec_capacity next → IsFilling old next end
+filling_goes_on old now next end more f is few room = record {
+  added = (f.added.0 ++ more, is ∙ (ap (λ (xs : List ℕ). xs ++ more) f.added.1 ∙ append_assoc old.items f.added.0 more));
+  most = let long = ap length is in let both = length-append now.items more in omega (arith, long, both, few);
+  kept = let kept = f.kept in omega (arith, kept, room);
+}

@@ -8,6 +8,8 @@ use mdbox_base::LineForm;
 
 /// How many octets are written at a time: their text is written over zeros that are still near the processor.
 const BLOCK: usize = 12_288;
+/// What memory is filled up with: a copy of many is faster than one octet after another.
+const ZEROS: [u8; 4_096] = [0; 4_096];
 
 /// Adds the text of a form and octets at the end, where there is room for it.
 pub fn put_lines(out: &mut Vec<u8>, form: LineForm, octets: &[u8])
@@ -49,9 +51,10 @@ fn fill_up(out: &mut Vec<u8>, end: usize)
     ensures size { length out.new.items ≡ end }
     ensures kept { vec_capacity out.old ≤ vec_capacity out.new }
 {
-    let Ok(()) = out.resize(end, 0) else {
-        unreachable!()
-    };
+    while out.len() < end {
+        let count = (end - out.len()).min(ZEROS.len());
+        put_octets(out, &ZEROS[..count]);
+    }
 }
 
 /// Adds octets at the end, where there is room for them.
