@@ -114,6 +114,7 @@ fn text_size(form: Option<LineForm>, octets: &[u8]) -> u64
 /// Adds the text that fills a reference's range, where there is room for it.
 fn put_text(out: &mut Vec<u8>, form: Option<LineForm>, octets: &[u8])
     requires form { IfSome form IsForm }
+    requires few { length octets.now < 2 ^ 32 }
     requires room { length out.old.items + length (part_text form octets.now) ≤ vec_capacity out.old }
     ensures text { out.new.items ≡ out.old.items ++ part_text form octets.now }
     ensures kept { vec_capacity out.old ≤ vec_capacity out.new }

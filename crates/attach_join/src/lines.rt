@@ -1,54 +1,59 @@
 // Base64 text, written into memory that was taken before.
-ghost use Rattle.std.specs.Prelude.{◌≡◌, ◌≤◌, ◌+◌, ◌++◌, length, vec_capacity};
-ghost use Rattle.model_base64.specs.Base64Text.{IsForm, line_break, padded, text_of};
+ghost use Rattle.std.specs.Prelude.{◌≡◌, ◌≤◌, ◌<◌, ◌^◌, ◌+◌, ◌++◌, ℕ, List, length, take, drop, vec_capacity};
+ghost use Rattle.model_base64.specs.Base64Text.{IsForm, text_of};
+ghost use Rattle.b64_lines.specs.Writer.{HasWrittenText};
 
-use base64::engine::general_purpose::STANDARD;
+use b64_lines::{LineWriter, text_length};
 use mdbox_base::LineForm;
 
-/// How many octets the longest line has.
-const LONGEST: usize = 996;
+/// How many octets are written at a time: their text is written over zeros that are still near the processor.
+const BLOCK: usize = 12_288;
+/// What memory is filled up with: a copy of many is faster than one octet after another.
+const ZEROS: [u8; 4_096] = [0; 4_096];
 
 /// Adds the text of a form and octets at the end, where there is room for it.
 pub fn put_lines(out: &mut Vec<u8>, form: LineForm, octets: &[u8])
     requires form { IsForm form }
+    requires few { length octets.now < 2 ^ 32 }
     requires room { length out.old.items + length (text_of form octets.now) ≤ vec_capacity out.old }
     ensures text { out.new.items ≡ out.old.items ++ text_of form octets.now }
     ensures kept { vec_capacity out.old ≤ vec_capacity out.new }
 {
-    let size = form.length as usize / 4 * 3;
-    let mut encoded = [0; LONGEST];
-    let mut rest = octets;
-    while rest.len() > size {
-        let (line, behind) = rest.split_at(size);
-        put_encoded(out, &mut encoded, line);
-        put_break(out, form.crlf);
-        rest = behind;
+    let start = out.len();
+    let mut writer = LineWriter::of(form);
+    let mut done = 0;
+    while done < octets.len() {
+        let end = octets.len().min(done + BLOCK);
+        fill_up(out, start + text_length(form, end as u64) as usize);
+        put_piece(&mut writer, &octets[done..end], out, start);
+        done = end;
     }
-    put_encoded(out, &mut encoded, rest);
+    writer.end(&mut out[start..]);
 }
 
-/// Adds the padded encoding of the octets of one line, which is made in memory for the longest one.
-fn put_encoded(out: &mut Vec<u8>, encoded: &mut [u8; LONGEST], octets: &[u8])
-    requires line { length octets.now ≤ 747 }
-    requires room { length out.old.items + length (padded octets.now) ≤ vec_capacity out.old }
-    ensures text { out.new.items ≡ out.old.items ++ padded octets.now }
-    ensures kept { vec_capacity out.old ≤ vec_capacity out.new }
+/// Writes the text of more octets, from a place on.
+fn put_piece(writer: &mut LineWriter, octets: &[u8], out: &mut [u8], start: usize)
+    requires start { start ≤ length out.old }
+    requires room { (given : List ℕ) × HasWrittenText writer.old given (drop start out.old) × (length (text_of writer.old.form (given ++ octets.now)) ≤ length (drop start out.old)) }
+    ensures front { take start out.new ≡ take start out.old }
+    ensures written { (given : List ℕ) → HasWrittenText writer.old given (drop start out.old) → HasWrittenText writer.new (given ++ octets.now) (drop start out.new) }
+    ensures form { writer.new.form ≡ writer.old.form }
+    ensures size { length out.new ≡ length out.old }
 {
-    let Ok(size) = STANDARD.encode_slice(octets, encoded) else {
-        unreachable!()
-    };
-    put_octets(out, &encoded[..size]);
+    writer.piece(octets, &mut out[start..]);
 }
 
-fn put_break(out: &mut Vec<u8>, crlf: bool)
-    requires room { length out.old.items + length (line_break crlf) ≤ vec_capacity out.old }
-    ensures text { out.new.items ≡ out.old.items ++ line_break crlf }
+/// Adds zeros at the end, up to a length, where there is room for them.
+fn fill_up(out: &mut Vec<u8>, end: usize)
+    requires more { length out.old.items ≤ end }
+    requires room { end ≤ vec_capacity out.old }
+    ensures front { (zeros : List ℕ) × (out.new.items ≡ out.old.items ++ zeros) }
+    ensures size { length out.new.items ≡ end }
     ensures kept { vec_capacity out.old ≤ vec_capacity out.new }
 {
-    if crlf {
-        put_octets(out, b"\r\n");
-    } else {
-        put_octets(out, b"\n");
+    while out.len() < end {
+        let count = (end - out.len()).min(ZEROS.len());
+        put_octets(out, &ZEROS[..count]);
     }
 }
 

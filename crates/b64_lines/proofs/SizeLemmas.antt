@@ -1,7 +1,8 @@
 -- The length of text in lines.
-use Rattle.std.proofs.Common.{◌≡◌, ◌<◌, ◌≤◌, ◌+◌, ◌-◌, ◌*◌, ◌/◌, ◌%◌, ℕ, zero, suc, List, [], ◌∷◌, length, sym, ◌∙◌, ap, arith, length-append}
+use Rattle.std.proofs.Common.{refl, ◌≡◌, ◌<◌, ◌≤◌, ◌+◌, ◌-◌, ◌*◌, ◌/◌, ◌%◌, ℕ, zero, suc, Bool, true, false, List, [], ◌∷◌, length, sym, ◌∙◌, ap, arith, length-append}
 use Rattle.std.specs.Int.{div_ceil}
-use Rattle.std.proofs.lemmas.Nat.{div-mul-add, div-add-mod'}
+use Rattle.std.proofs.lemmas.Nat.{div-mul-add, div-add-mod', le-div}
+use Rattle.std.proofs.Math.Nat.{div-mul-le_self}
 use Rattle.mdbox_base.specs.declared.metadata.LineForm.{LineForm}
 use Rattle.model_base64.specs.Base64Text.{in_lines, line_break, padded, text_of, IsForm}
 use Rattle.model_base64.proofs.Base64Lemmas.{length-padded}
@@ -41,3 +42,23 @@ text_is form text octets characters good is count =
 
 pub rounded_up : (n : ℕ) → div_ceil n 3 ≡ (n + 2) / 3
 rounded_up n = omega arith
+
+-- The text of more octets is no shorter.
+pub longer_text : (form : LineForm) (few many : List ℕ) → IsForm form → length few ≤ length many → length (text_of form few) ≤ length (text_of form many)
+longer_text form few many good more =
+    let a = text_is form few (length few) (4 * ((length few + 2) / 3)) good refl refl in
+    let b = text_is form many (length many) (4 * ((length many + 2) / 3)) good refl refl in
+    let thirds = div_more (length few + 2) (length many + 2) 3 (omega arith) (omega (arith, more)) in
+    let lines = div_more (4 * ((length few + 2) / 3) - 1) (4 * ((length many + 2) / 3) - 1) form.length (let least = good.least in omega (arith, least)) (omega (arith, thirds)) in
+    let breaks = each_more form.crlf (length_of_breaks few) (length_of_breaks many) lines in
+    omega (arith, a, b, thirds, breaks)
+  where
+    length_of_breaks : List ℕ → ℕ
+    length_of_breaks text = (4 * ((length text + 2) / 3) - 1) / form.length
+
+    div_more : (m n k : ℕ) → 0 < k → m ≤ n → m / k ≤ n / k
+    div_more m n k some le = le-div (m / k) n k some (let least = div-mul-le_self m k in omega (arith, least, le))
+
+    each_more : (crlf : Bool) (m n : ℕ) → m ≤ n → m * length (line_break crlf) ≤ n * length (line_break crlf)
+    each_more true m n le = omega (arith, le)
+    each_more false m n le = omega (arith, le)
