@@ -1,9 +1,10 @@
 -- A message that is ready to be stored.
-use Rattle.std.specs.Prelude.{◌≡◌, ◌+◌, ℕ, List, [], ◌∷◌, All, length, map}
+use Rattle.std.specs.Prelude.{◌≡◌, ◌+◌, ℕ, List, [], ◌∷◌, All, filter, length, map, Option, Some, None}
 use Rattle.sha1.specs.Sha1.{sha1}
 use Rattle.mdbox_base.specs.declared.metadata.ExtRef.{ExtRef}
 use Rattle.model_mime.specs.declared.mime.Part.{Part}
 use Rattle.model_mime.specs.Lines.{range}
+use Rattle.model_mime.specs.Parts.{parts_in}
 use Rattle.model_attach.specs.Detached.{Piece, IsDetached, IsInstance}
 use Rattle.model_attach.specs.VirtualSize.{virtual_size}
 use Rattle.attach_detach.specs.declared.message.Detached.{Detached}
@@ -30,6 +31,11 @@ pub record IsPrepared (message : List ℕ) (p : Prepared) : Type 0 where
   pub hashes : All HasHash p.parts
   pub whole : p.whole ≡ length message
   pub virtual : p.virtual_size ≡ virtual_size message
+
+-- What is found as a message is taken apart: its prepared form, or nothing where none of its parts can be detached.
+abbrev pub IsTakenApart : List ℕ → Option Prepared → Type 0
+IsTakenApart message (Some prepared) = IsPrepared message prepared
+IsTakenApart message None = filter (λ part. part.detachable) (parts_in message) ≡ []
 
 -- A message of which nothing is taken out, with its sizes.
 pub record IsPlain (message : List ℕ) (p : Prepared) : Type 0 where

@@ -1,11 +1,14 @@
 // A message as it is stored.
 ghost use Rattle.std.specs.Prelude.{◌≡◌, ◌≤◌, [], length, IfOk};
-ghost use Rattle.attach_detach.specs.Prepared.{IsPrepared, IsPlain};
+ghost use Rattle.std.specs.List.{list_any};
+ghost use Rattle.model_mime.specs.Parts.{parts_in};
+ghost use Rattle.attach_detach.specs.Prepared.{IsPrepared, IsPlain, IsTakenApart};
 
 use crate::cut::cut;
 use crate::size::bare_breaks;
 use mdbox_base::{Hash, LineForm, NoMemory, Octets, Seq};
 use mime_parts::leaf_parts;
+use model_mime::Part;
 use std::alloc::Global;
 
 /// A detached attachment: the range of the message that its text fills, the form of that text (None where it is the
@@ -35,7 +38,35 @@ pub fn prepare(alloc: Global, message: &[u8]) -> Result<Prepared, NoMemory>
     ensures { IfOk result (λ prepared. IsPrepared message.now prepared) }
 {
     let leaves = leaf_parts(alloc, message)?;
-    let (body, parts) = cut(alloc, message, leaves.as_slice())?;
+    cut_out(alloc, message, leaves.as_slice())
+}
+
+/// Takes every detachable part out of a message, or answers None where it has none: then it is stored as it is.
+pub fn take_apart(alloc: Global, message: &[u8]) -> Result<Option<Prepared>, NoMemory>
+    requires { length message.now ≤ 67108864 }
+    ensures { IfOk result (IsTakenApart message.now) }
+{
+    let leaves = leaf_parts(alloc, message)?;
+    if has_detachable(leaves.as_slice()) {
+        return Ok(Some(cut_out(alloc, message, leaves.as_slice())?));
+    }
+    Ok(None)
+}
+
+/// Whether one of these leaves can be detached.
+fn has_detachable(leaves: &[Part]) -> bool
+    ensures { result ≡ list_any (λ part. part.detachable) leaves.now }
+{
+    leaves.iter().any(|leaf| leaf.detachable)
+}
+
+/// A message without those of its leaves that can be detached.
+fn cut_out(alloc: Global, message: &[u8], leaves: &[Part]) -> Result<Prepared, NoMemory>
+    requires short { length message.now ≤ 67108864 }
+    requires leaves { leaves.now ≡ parts_in message.now }
+    ensures { IfOk result (λ prepared. IsPrepared message.now prepared) }
+{
+    let (body, parts) = cut(alloc, message, leaves)?;
     let whole = message.len() as u32;
     let virtual_size = whole + bare_breaks(message);
     Ok(Prepared {

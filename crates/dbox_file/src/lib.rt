@@ -6,7 +6,7 @@ pub use laws::{written_files_are_files, written_messages_are_found};
 pub use message::message_at;
 pub use messages::scan;
 pub use model_storage::{MessageAt, PlaceError, ScanError};
-pub use writing::{push_file_header, push_message};
+pub use writing::{message_header, metadata_block, push_file_header, push_message};
 
 mod alone;
 mod header_line;

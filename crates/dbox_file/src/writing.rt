@@ -1,5 +1,5 @@
 // The written form of a storage file.
-ghost use Rattle.std.specs.Prelude.{◌≡◌, ◌≤◌, ◌<◌, ◌+◌, ◌^◌, ◌++◌, ◌∷◌, [], ℕ, List, length, replicate, OnOk, OnErr};
+ghost use Rattle.std.specs.Prelude.{◌≡◌, ◌≤◌, ◌<◌, ◌+◌, ◌^◌, ◌++◌, ◌∷◌, [], ℕ, List, length, replicate, IfOk, OnOk, OnErr};
 ghost use Rattle.model_storage.specs.StorageFile.{Line, AreLines};
 ghost use Rattle.model_storage.specs.WrittenFile.{upper_digit, upper_digits, written_header, written_message};
 ghost use Rattle.dbox_file.specs.Written.{header_text, block_text};
@@ -66,8 +66,21 @@ fn push_parts(out: &mut Vec<u8>, body: &[u8], lines: &[u8]) -> Result<(), NoMemo
     Ok(())
 }
 
+/// What stands behind a message's body: the block of these metadata lines.
+pub fn metadata_block(alloc: Global, lines: &[u8]) -> Result<Vec<u8>, NoMemory>
+    requires { length lines.now + 5 ≤ 1048576 }
+    ensures { IfOk result (λ block. block.items ≡ block_text lines.now) }
+{
+    let mut block = Vec::new(alloc);
+    block.reserve(TRAILER.len() + lines.len() + 1)?;
+    block.extend_from_slice(TRAILER)?;
+    block.extend_from_slice(lines)?;
+    block.extend_from_slice(b"\n")?;
+    Ok(block)
+}
+
 /// The header of a message with a body of this size.
-fn message_header(size: usize) -> [u8; 30]
+pub fn message_header(size: usize) -> [u8; 30]
     ensures { result ≡ header_text size }
 {
     let mut header = BLANK_HEADER;

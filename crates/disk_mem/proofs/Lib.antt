@@ -6,5 +6,6 @@ pub mod FollowingLemmas
 pub mod HistoryLemmas
 pub mod LeavingLemmas
 pub mod MomentLemmas
+mod MuteLemmas
 pub mod ReadingLemmas
 pub mod StepLemmas

@@ -3,6 +3,7 @@
 
 pub use choice::Choice;
 pub use disk::MemDisk;
+pub use mute::MuteDisk;
 
 mod calls;
 mod choice;
@@ -10,6 +11,7 @@ mod disk;
 mod file;
 mod image;
 mod marks;
+mod mute;
 mod note;
 mod plan;
 mod text;

@@ -3,7 +3,7 @@ use crate::damage::{Damage, Damaged};
 use crate::files::{clear, octets_of, push_paths, put};
 use crate::folder::{CaseFolder, system_disk};
 use crate::orders::{Orders, take_turns};
-use crate::runs::{Run, perform};
+use crate::runs::{Run, perform, perform_altered};
 use crate::setting::{Place, Setting};
 use crate::streams::Streams;
 use crate::trial::Trial;
@@ -145,6 +145,7 @@ impl Cases {
                 Ok(true)
             }
             "fail" => Ok(self.setting.fail(rest)),
+            "altered" => Ok(self.setting.alter(rest)),
             _ => self.run_line(command),
         }
     }
@@ -448,7 +449,7 @@ impl Cases {
         let empty = MemDisk::fresh(self.alloc)?;
         let disk = mem::replace(&mut self.disk, empty).failing(fails);
         let before = disk.calls();
-        let (disk, status) = perform(self.alloc, disk, run.words, streams);
+        let (disk, status) = perform_altered(self.alloc, disk, self.setting.altered, run, streams);
         self.calls = disk.calls().saturating_sub(before);
         self.disk = disk;
         Ok(status)

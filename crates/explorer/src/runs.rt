@@ -1,4 +1,5 @@
 // One run of the program.
+use crate::setting::Altered;
 use crate::streams::Streams;
 use disk_mem::{Choice, MemDisk};
 use disk_model::Disk;
@@ -53,6 +54,28 @@ pub fn perform_in(
     let disk = FolderDisk::of(KeptFolder::of(folder, alloc), alloc);
     let (disk, status) = perform(alloc, disk, run.words, streams);
     (disk.into_folder().into_folder(), status)
+}
+
+/// Does a run on a disk that gives an octet wrong, if one is said, and answers the disk after it, and the status.
+pub fn perform_altered(
+    alloc: Global,
+    disk: MemDisk,
+    altered: Option<Altered>,
+    run: Run<'_>,
+    streams: &mut Streams,
+) -> (MemDisk, u8) {
+    let Some(
+        Altered {
+            name,
+            offset,
+            octet,
+        },
+    ) = altered
+    else {
+        return perform(alloc, disk, run.words, streams);
+    };
+    let (disk, status) = perform(alloc, disk.altered(name, offset, octet), run.words, streams);
+    (disk.into_inner(), status)
 }
 
 /// A copy of a disk, at rest, with all that was written to it.

@@ -1,5 +1,7 @@
 // What lines have said for the runs to come.
 use crate::streams::Fails;
+use disk_model::FileName;
+use file_paths::name_of_path;
 use std::alloc::Global;
 
 /// Where the files of a case are.
@@ -11,6 +13,27 @@ pub enum Place {
     Folder,
     /// In the folder of the system that the program runs in.
     System,
+}
+
+/// The octet that the disk in memory gives wrong.
+#[derive(Clone, Copy)]
+pub struct Altered {
+    pub name: FileName,
+    pub offset: u64,
+    pub octet: u8,
+}
+
+impl Altered {
+    /// As a line has it: the file's path, the place in it, and what is read there. None if it isn't written so.
+    fn of(line: &str) -> Option<Altered> {
+        let (path, rest) = line.split_once(' ')?;
+        let (offset, octet) = rest.split_once(' ')?;
+        Some(Altered {
+            name: name_of_path(path.as_bytes())?,
+            offset: offset.parse::<u64>().ok()?,
+            octet: octet.parse::<u8>().ok()?,
+        })
+    }
 }
 
 /// What lines have said for the runs of a case.
@@ -27,6 +50,8 @@ pub struct Setting {
     pub fails: Fails,
     /// The call of the disk that fails in the next run, 0 for none.
     pub disk_fails: u64,
+    /// The octet that the disk gives wrong in the next run.
+    pub altered: Option<Altered>,
     /// Whether the output takes one octet a call in the next run.
     pub narrow: bool,
     pub place: Place,
@@ -42,6 +67,7 @@ impl Setting {
             after: Vec::new(alloc),
             fails: Fails::NONE,
             disk_fails: 0,
+            altered: None,
             narrow: false,
             place: Place::Disk,
         }
@@ -64,10 +90,17 @@ impl Setting {
         true
     }
 
+    /// Says which octet the disk gives wrong in the next run. False if it isn't written so.
+    pub fn alter(&mut self, line: &str) -> bool {
+        self.altered = Altered::of(line);
+        self.altered.is_some()
+    }
+
     /// Forgets what was said for one run.
     pub fn end_run(&mut self) {
         self.fails = Fails::NONE;
         self.disk_fails = 0;
+        self.altered = None;
         self.narrow = false;
     }
 }

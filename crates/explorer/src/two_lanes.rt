@@ -6,14 +6,15 @@ ghost use Rattle.script_text.specs.Script.{IsForLanes};
 use attach_detach::Prepared;
 use disk_mem::MemDisk;
 use disk_model::Disk;
-use lanes::{Turn, Turned, World, WorldRefused, world_of, worlds_go_on};
+use lanes::{Turn, Turned, World, worlds_go_on};
 use mdbox_base::{JournalEntry, MemSink, NoMemory, Octets, Reply, Script, Seq};
 use mdbox_threads::prepare_in_turn;
 use request_text::print_batch;
+use script_run::open_script;
 use script_text::{ScriptError, read_script};
 use std::alloc::{AllocFailed, Global};
 use std::marker::Model;
-use store_open::{OpenError, OpenRefused, open_store};
+use store_open::{OpenError, OpenRefused};
 
 /// How many lanes a script has.
 pub const LANES: u32 = 2;
@@ -102,18 +103,8 @@ fn open<D: Disk>(
     requires few { length script.requests ≤ 100000 }
     requires given { AreGiven script.requests prepared }
 {
-    let store = match open_store(alloc, disk, LANES) {
-        Ok(store) => store,
-        Err(refused) => return Err(refused),
-    };
-    store.facts();
-    match world_of(store, script, prepared) {
-        Ok(world) => Ok(TwoLanes { world }),
-        Err(WorldRefused { store }) => Err(OpenRefused {
-            error: OpenError::NoMemory,
-            disk: store.into_disk(),
-        }),
-    }
+    let world = open_script(alloc, disk, script, prepared)?;
+    Ok(TwoLanes { world })
 }
 
 /// A world of two lanes.

@@ -1,6 +1,6 @@
 -- A folder whose files stay open, one call on.
 use Rattle.std.proofs.Common.{◌≡◌, ◌≢◌, ◌↔◌, inl, inr, ℕ, Bool, true, false, ◌&&◌, List, get_or, Option, Some, None, Result, Ok, Err, IfOk, OnErr, OnOk, string_bytes, refl, sym, ◌∙◌, ap, subst}
-use Rattle.std.specs.Rc.{rc_value}
+use Rattle.std.specs.Arc.{arc_value}
 use Rattle.std.proofs.Math.Logic.{∥∥₁_elim, ∥∥₁_map}
 use Rattle.std.proofs.Props.{props}
 use Rattle.std.proofs.lemmas.Bool.{cases_Bool, cond-true, cond-false, false≢true}
@@ -23,7 +23,7 @@ AreKept number m files = ∥ IfSound m (λ s. StandAtPaths number s files) ∥�
 stand_among : {T : Type 0} (number : T → ℕ) (s : System) (old new : List (OpenFile T)) → AreAmong old new → StandAtPaths number s old → StandAtPaths number s new
 stand_among {T} number s old new among stand k d below =
     let is = among k d below in
-    let at = All-contains (λ (file : OpenFile T). s.node (string_bytes file.path) ≡ PlainFile (number (rc_value file.file))) old is.0 stand is.1 in
+    let at = All-contains (λ (file : OpenFile T). s.node (string_bytes file.path) ≡ PlainFile (number (arc_value file.file))) old is.0 stand is.1 in
     ap (λ p. s.node p) (sym is.2) ∙ at ∙ ap (λ one. PlainFile (number one)) is.3
 
 -- files were closed
@@ -126,7 +126,7 @@ open_stands number None path files kept is = tt
 open_stands {T} number (Some m) path files kept is = λ sound.
     plain_kind (m.now.node path) (∥∥₁_elim kept (hlevel props) (λ k.
     ap (λ p. is_plain_node (m.now.node p)) (sym is.2)
-    ∙ ap is_plain_node (All-contains (λ (file : OpenFile T). m.now.node (string_bytes file.path) ≡ PlainFile (number (rc_value file.file))) files is.0 (k sound) is.1)))
+    ∙ ap is_plain_node (All-contains (λ (file : OpenFile T). m.now.node (string_bytes file.path) ≡ PlainFile (number (arc_value file.file))) files is.0 (k sound) is.1)))
 
 abbrev number_of : Node → ℕ
 number_of Nothing = 0
@@ -140,7 +140,7 @@ pub open_number : {T : Type 0} (number : T → ℕ) (m : Option Modelled) (path 
 open_number number None path one files kept is = tt
 open_number {T} number (Some m) path one files kept is = λ sound n stands.
     ∥∥₁_elim kept (hlevel props) (λ k.
-    let at = All-contains (λ (file : OpenFile T). m.now.node (string_bytes file.path) ≡ PlainFile (number (rc_value file.file))) files is.0 (k sound) is.1 in
+    let at = All-contains (λ (file : OpenFile T). m.now.node (string_bytes file.path) ≡ PlainFile (number (arc_value file.file))) files is.0 (k sound) is.1 in
     ap number (sym is.3) ∙ ap number_of (sym at ∙ ap (λ p. m.now.node p) is.2 ∙ stands))
 
 file_of_kind : (node : Node) → kind.File ≡ kind_of_node node → (n : ℕ) × (node ≡ PlainFile n)
@@ -155,7 +155,7 @@ pub kept_more : {T : Type 0} (number : T → ℕ) (m : Option Modelled) (path : 
 kept_more number None path one old new more stands kept = ∣ tt ∣₁
 kept_more {T} number (Some m) path one old new more stands kept = ∥∥₁_map kept (λ k sound at d below. elim (more at d below) [
   | inl is ↦
-      let there = All-contains (λ (file : OpenFile T). m.now.node (string_bytes file.path) ≡ PlainFile (number (rc_value file.file))) old is.0 (k sound) is.1 in
+      let there = All-contains (λ (file : OpenFile T). m.now.node (string_bytes file.path) ≡ PlainFile (number (arc_value file.file))) old is.0 (k sound) is.1 in
       ap (λ p. m.now.node p) (sym is.2) ∙ there ∙ ap (λ x. PlainFile (number x)) is.3
   | inr new ↦ ap (λ p. m.now.node p) new.0 ∙ stands sound ∙ ap (λ x. PlainFile (number x)) (sym new.1)
 ])

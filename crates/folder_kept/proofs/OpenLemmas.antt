@@ -1,7 +1,7 @@
 -- Files that stay open, one call on.
 use Rattle.std.proofs.Common.{◌≡◌, ◌≢◌, ◌⊎◌, inl, inr, ℕ, suc, ◌<◌, ◌≤◌, ◌+◌, ◌==◌, Bool, true, false, List, [], ◌∷◌, ◌++◌, length, get_or, set, Option, Some, None, MatchOption, IfSome, All, AllPairs, Contains, string_bytes, refl, sym, ◌∙◌, ap, subst, arith}
 use Rattle.std.specs.List.{AllWithin, HoldsAt}
-use Rattle.std.specs.Rc.{rc_value}
+use Rattle.std.specs.Arc.{arc_value}
 use Rattle.std.specs.List.{remove, items_where_true}
 use Rattle.std.specs.List.Retain.{IsFiltered, ReturnsInTurn}
 use Rattle.std.proofs.lemmas.Bool.{cases_Bool, cases_lt, eqb-true, eq-eqb, false≢true}
@@ -31,9 +31,9 @@ pub open_there : {T : Type 0} (path : List ℕ) (files : List (OpenFile T)) (at 
 open_there path files at is = one_there (λ file. string_bytes file.path ≡ path) files at is.0 is.1
 
 pub kept_there : {T : Type 0} (path : List ℕ) (files : List (OpenFile T)) (at : ℕ) (found : OpenFile T) (one : T) → (at < length files) × HoldsAt (λ file. string_bytes file.path ≡ path) files at
-    → found ≡ get_or files at found → one ≡ rc_value found.file → IsKeptAt path one files
+    → found ≡ get_or files at found → one ≡ arc_value found.file → IsKeptAt path one files
 kept_there {T} path files at found one is here same =
-    let G : OpenFile T → Type 0 = λ file. rc_value file.file ≡ rc_value found.file in
+    let G : OpenFile T → Type 0 = λ file. arc_value file.file ≡ arc_value found.file in
     let there = Contains-get_or files at found is.0 in
     (get_or files at found, there, is.1 found, subst G here refl ∙ sym same)
 
@@ -91,7 +91,7 @@ marked_others {T} files at id b found below holds here =
 
 pub marked_among : {T : Type 0} (files : List (OpenFile T)) (at : ℕ) (b : Bool) (found : OpenFile T) → at < length files → found ≡ get_or files at found → AreAmong files (set files at (record found { is_synced = b }))
 marked_among {T} files at b found below here =
-    let P : OpenFile T → Type 0 = λ file. IsKeptAt (string_bytes file.path) (rc_value file.file) files in
+    let P : OpenFile T → Type 0 = λ file. IsKeptAt (string_bytes file.path) (arc_value file.file) files in
     let F : OpenFile T → Type 0 = Contains files in
     All-set P files at (record found { is_synced = b }) (found, subst F (sym here) (Contains-get_or files at found below), refl, refl) (among_same files)
 
@@ -218,10 +218,10 @@ filtered_keeps R But f files rest lets_go stays is k d below unsynced =
 pub more_among : {T : Type 0} (path : List ℕ) (one : T) (files new : List (OpenFile T)) → AreAmong files new → AreMore path one files new
 more_among path one files new are k d below = inl (are k d below)
 
-pub more_pushed : {T : Type 0} (path : List ℕ) (one : T) (files mid : List (OpenFile T)) (added : OpenFile T) → AreAmong files mid → string_bytes added.path ≡ path → rc_value added.file ≡ one
+pub more_pushed : {T : Type 0} (path : List ℕ) (one : T) (files mid : List (OpenFile T)) (added : OpenFile T) → AreAmong files mid → string_bytes added.path ≡ path → arc_value added.file ≡ one
     → AreMore path one files (mid ++ added ∷ [])
 more_pushed {T} path one files mid added are at is =
-    let P : OpenFile T → Type 0 = λ file. IsKeptAt (string_bytes file.path) (rc_value file.file) files ⊎ ((string_bytes file.path ≡ path) × (rc_value file.file ≡ one)) in
+    let P : OpenFile T → Type 0 = λ file. IsKeptAt (string_bytes file.path) (arc_value file.file) files ⊎ ((string_bytes file.path ≡ path) × (arc_value file.file ≡ one)) in
     All-push P mid added (λ k d below. inl (are k d below)) (inr (at, is))
 
 pub pushed_keeps : {T : Type 0} (files mid : List (OpenFile T)) (added : OpenFile T) → KeepsUnsynced (λ file. ⊥) files mid → KeepsUnsynced (λ file. ⊥) files (mid ++ added ∷ [])
@@ -230,12 +230,12 @@ pushed_keeps files mid added keeps k d below unsynced = elim (keeps k d below un
 pub pushed_as : {T : Type 0} (mid : List (OpenFile T)) (added : OpenFile T) (id : ℕ) (b : Bool) → added.id ≡ id → added.is_synced ≡ b → IsOpenAs id b (mid ++ added ∷ [])
 pushed_as mid added id b at is = (added, Contains-push mid added, at, is)
 
-pub pushed_for : {T : Type 0} (path : List ℕ) (to_write : Bool) (kept : KeptFile T) (mid : List (OpenFile T)) (added : OpenFile T) → string_bytes added.path ≡ path → rc_value added.file ≡ rc_value kept.file → added.id ≡ kept.id
+pub pushed_for : {T : Type 0} (path : List ℕ) (to_write : Bool) (kept : KeptFile T) (mid : List (OpenFile T)) (added : OpenFile T) → string_bytes added.path ≡ path → arc_value added.file ≡ arc_value kept.file → added.id ≡ kept.id
     → added.is_to_write ≡ to_write → IsOpenFor path to_write kept (mid ++ added ∷ [])
 pushed_for path to_write kept mid added at is id use_of = (added, Contains-push mid added, at, is, id, λ e. use_of ∙ e)
 
 pub open_for_there : {T : Type 0} (path : List ℕ) (to_write : Bool) (files : List (OpenFile T)) (at : ℕ) (found : OpenFile T) (kept : KeptFile T) → (at < length files) × HoldsAt (λ file. string_bytes file.path ≡ path) files at
-    → found ≡ get_or files at found → rc_value kept.file ≡ rc_value found.file → kept.id ≡ found.id → (to_write ≡ true → found.is_to_write ≡ true) → IsOpenFor path to_write kept files
+    → found ≡ get_or files at found → arc_value kept.file ≡ arc_value found.file → kept.id ≡ found.id → (to_write ≡ true → found.is_to_write ≡ true) → IsOpenFor path to_write kept files
 open_for_there {T} path to_write files at found kept is here same id use_of =
     let F : OpenFile T → Type 0 = Contains files in
     let P : OpenFile T → Type 0 = λ file. string_bytes file.path ≡ path in

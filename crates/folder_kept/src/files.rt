@@ -1,12 +1,12 @@
 // Files that stay open.
 ghost use Rattle.std.specs.Prelude.{◌≡◌, ◌≢◌, ◌<◌, ◌≤◌, ◌⊎◌, ◌++◌, ◌∷◌, [], true, false, length, vec_len, All, Contains, IfOk, IfSome, IfNone, OnOk, OnErr, string_bytes};
 ghost use Rattle.std.specs.List.{HoldsAt};
-ghost use Rattle.std.specs.Rc.{rc_value};
+ghost use Rattle.std.specs.Arc.{arc_value};
 ghost use Rattle.folder_kept.specs.Open.{IsOpenAt, IsNotOpen, IsKeptAt, IsOpenAs, IsOpenFor, AreAmong, AreMore, AreMarked, HaveOwnIds, KeepsUnsynced};
 
 use folder_model::CallError;
 use std::alloc::Global;
-use std::rc::Rc;
+use std::sync::Arc;
 
 /// How many files stay open.
 const MOST: usize = 16;
@@ -14,24 +14,24 @@ const MOST: usize = 16;
 /// An open file that a folder may keep open beside its user.
 #[derive(Drop)]
 pub struct KeptFile<T: Drop> {
-    pub(crate) file: Rc<T>,
+    pub(crate) file: Arc<T>,
     /// Tells it from each other file that the folder has opened.
     pub(crate) id: u64,
 }
 
 impl<T: Drop> KeptFile<T> {
     fn of(alloc: Global, file: T, id: u64) -> Result<KeptFile<T>, CallError>
-        ensures { IfOk result (λ kept. (rc_value kept.file ≡ file) × (kept.id ≡ id)) }
+        ensures { IfOk result (λ kept. (arc_value kept.file ≡ file) × (kept.id ≡ id)) }
     {
-        match Rc::new(alloc, file) {
+        match Arc::new(alloc, file) {
             Ok(file) => Ok(KeptFile { file, id }),
             Err(_) => Err(CallError::Failed),
         }
     }
 
     /// The same file once more.
-    fn again(file: &Rc<T>, id: u64) -> Result<KeptFile<T>, CallError>
-        ensures { IfOk result (λ kept. (rc_value kept.file ≡ rc_value file.now) × (kept.id ≡ id)) }
+    fn again(file: &Arc<T>, id: u64) -> Result<KeptFile<T>, CallError>
+        ensures { IfOk result (λ kept. (arc_value kept.file ≡ arc_value file.now) × (kept.id ≡ id)) }
     {
         match file.clone() {
             Ok(file) => Ok(KeptFile { file, id }),
@@ -44,7 +44,7 @@ impl<T: Drop> KeptFile<T> {
 #[derive(Drop)]
 pub(crate) struct OpenFile<T: Drop> {
     path: String,
-    file: Rc<T>,
+    file: Arc<T>,
     id: u64,
     is_to_write: bool,
     /// Whether no octets were written since its last sync, or since it was opened.
@@ -60,7 +60,7 @@ impl<T: Drop> OpenFile<T> {
         is_synced: bool,
     ) -> Result<OpenFile<T>, CallError>
         ensures path { IfOk result (λ opened. string_bytes opened.path ≡ path.now) }
-        ensures file { IfOk result (λ opened. rc_value opened.file ≡ rc_value kept.now.file) }
+        ensures file { IfOk result (λ opened. arc_value opened.file ≡ arc_value kept.now.file) }
         ensures marks { IfOk result (λ opened. (opened.id ≡ kept.now.id) × (opened.is_synced ≡ is_synced)) }
         ensures writable { IfOk result (λ opened. opened.is_to_write ≡ is_to_write) }
     {
@@ -143,7 +143,7 @@ impl<T: Drop> OpenFiles<T> {
         path: &str,
         to_write: bool,
     ) -> Result<Option<KeptFile<T>>, CallError>
-        ensures found { IfOk result (λ found. IfSome found (λ kept. IsKeptAt path.now (rc_value kept.file) self.now.files.items)) }
+        ensures found { IfOk result (λ found. IfSome found (λ kept. IsKeptAt path.now (arc_value kept.file) self.now.files.items)) }
         ensures writable { IfOk result (λ found. IfSome found (λ kept. IsOpenFor path.now to_write kept self.now.files.items)) }
     {
         let Some(at) = self.place(path) else {
@@ -165,7 +165,7 @@ impl<T: Drop> OpenFiles<T> {
         is_to_write: bool,
         is_synced: bool,
     ) -> Result<KeptFile<T>, CallError>
-        ensures file { IfOk result (λ kept. rc_value kept.file ≡ file) }
+        ensures file { IfOk result (λ kept. arc_value kept.file ≡ file) }
         ensures open { IfOk result (λ kept. IsOpenAs kept.id is_synced self.new.files.items) }
         ensures writable { IfOk result (λ kept. IsOpenFor path.now is_to_write kept self.new.files.items) }
         ensures more { AreMore path.now file self.old.files.items self.new.files.items }

@@ -1,6 +1,6 @@
 // A folder whose files stay open.
 ghost use Rattle.std.specs.Prelude.{◌≡◌, ◌↔◌, ◌<◌, ◌≤◌, ℕ, true, false, length, take, drop, map, string_bytes, IfOk, IsErrOf, OnOk, OnErr};
-ghost use Rattle.std.specs.Rc.{rc_value};
+ghost use Rattle.std.specs.Arc.{arc_value};
 ghost use Rattle.disk_model.specs.Disk.{written, cut_to};
 ghost use Rattle.folder_model.specs.System.{ArePathsIn, IsHalfWritten, IsHalfCut, Nothing, PlainFile, AFolder, with_node, with_content, with_new_file, with_synced_file, with_synced_names, with_failed_sync, with_lock};
 ghost use Rattle.folder_model.specs.Paths.{IsPath, IsFolderPath};
@@ -50,7 +50,7 @@ impl<F: Folder + Drop> Folder for KeptFolder<F> {
 
     ghost past = { λ kept. F.Folder.past kept.folder };
 
-    ghost number = { λ file. F.Folder.number (rc_value file.file) };
+    ghost number = { λ file. F.Folder.number (arc_value file.file) };
 
     fn try_lock(&mut self) -> Result<bool, CallError>
         ensures locked { IfOk result (λ locked. locked ≡ true → F.Folder.modelled self.new.folder ≡ done_by with_lock (F.Folder.modelled self.old.folder)) }
@@ -98,7 +98,7 @@ impl<F: Folder + Drop> Folder for KeptFolder<F> {
     fn open(&mut self, path: &str, to_write: bool) -> Result<KeptFile<F::File>, CallError>
         requires locked { IsLocked (F.Folder.modelled self.old.folder) }
         requires spelled { IsPath path.now }
-        ensures file { IfOk result (λ file. IfSound (F.Folder.modelled self.old.folder) (λ s. (n : ℕ) → s.node path.now ≡ PlainFile n → F.Folder.number (rc_value file.file) ≡ n)) }
+        ensures file { IfOk result (λ file. IfSound (F.Folder.modelled self.old.folder) (λ s. (n : ℕ) → s.node path.now ≡ PlainFile n → F.Folder.number (arc_value file.file) ≡ n)) }
         ensures same { F.Folder.modelled self.new.folder ≡ F.Folder.modelled self.old.folder }
         ensures still { F.Folder.past self.new.folder ≡ F.Folder.past self.old.folder }
         ensures writable { IfOk result (λ file. IsOpenFor path.now to_write file self.new.files.files.items) }
@@ -121,7 +121,7 @@ impl<F: Folder + Drop> Folder for KeptFolder<F> {
         requires locked { IsLocked (F.Folder.modelled self.old.folder) }
         requires spelled { IsPath path.now }
         ensures there { OnOk result (IfSound (F.Folder.modelled self.old.folder) (λ s. s.node path.now ≡ Nothing)) }
-        ensures number { IfOk result (λ file. IfModelled (F.Folder.modelled self.old.folder) (λ s. F.Folder.number (rc_value file.file) ≡ s.count)) }
+        ensures number { IfOk result (λ file. IfModelled (F.Folder.modelled self.old.folder) (λ s. F.Folder.number (arc_value file.file) ≡ s.count)) }
         ensures made { OnOk result (F.Folder.modelled self.new.folder ≡ done_by (with_new_file path.now) (F.Folder.modelled self.old.folder)) }
         ensures failed { OnErr result (IsDoneOrNot (with_new_file path.now) (F.Folder.modelled self.old.folder) (F.Folder.modelled self.new.folder)) }
         ensures passed { HasPassed (F.Folder.modelled self.old.folder) (F.Folder.past self.old.folder) (F.Folder.modelled self.new.folder) (F.Folder.past self.new.folder) }
@@ -138,7 +138,7 @@ impl<F: Folder + Drop> Folder for KeptFolder<F> {
 
     fn length(&mut self, file: &KeptFile<F::File>) -> Result<u64, CallError>
         requires locked { IsLocked (F.Folder.modelled self.old.folder) }
-        ensures length { IfOk result (λ n. IfSound (F.Folder.modelled self.old.folder) (λ s. n ≡ length (s.content (F.Folder.number (rc_value file.now.file))).octets)) }
+        ensures length { IfOk result (λ n. IfSound (F.Folder.modelled self.old.folder) (λ s. n ≡ length (s.content (F.Folder.number (arc_value file.now.file))).octets)) }
         ensures same { F.Folder.modelled self.new.folder ≡ F.Folder.modelled self.old.folder }
         ensures still { F.Folder.past self.new.folder ≡ F.Folder.past self.old.folder }
         ensures open { self.new.files.files.items ≡ self.old.files.files.items }
@@ -154,8 +154,8 @@ impl<F: Folder + Drop> Folder for KeptFolder<F> {
     ) -> Result<usize, CallError>
         requires locked { IsLocked (F.Folder.modelled self.old.folder) }
         ensures count { IfOk result (λ n. n ≤ length into.new) }
-        ensures octets { IfOk result (λ n. IfSound (F.Folder.modelled self.old.folder) (λ s. take n into.new ≡ take n (drop offset (s.content (F.Folder.number (rc_value file.now.file))).octets))) }
-        ensures some { IfOk result (λ n. IfSound (F.Folder.modelled self.old.folder) (λ s. 0 < length into.old → offset < length (s.content (F.Folder.number (rc_value file.now.file))).octets → 0 < n)) }
+        ensures octets { IfOk result (λ n. IfSound (F.Folder.modelled self.old.folder) (λ s. take n into.new ≡ take n (drop offset (s.content (F.Folder.number (arc_value file.now.file))).octets))) }
+        ensures some { IfOk result (λ n. IfSound (F.Folder.modelled self.old.folder) (λ s. 0 < length into.old → offset < length (s.content (F.Folder.number (arc_value file.now.file))).octets → 0 < n)) }
         ensures same { F.Folder.modelled self.new.folder ≡ F.Folder.modelled self.old.folder }
         ensures still { F.Folder.past self.new.folder ≡ F.Folder.past self.old.folder }
         ensures open { self.new.files.files.items ≡ self.old.files.files.items }
@@ -170,11 +170,11 @@ impl<F: Folder + Drop> Folder for KeptFolder<F> {
         from: &[u8],
     ) -> Result<usize, CallError>
         requires locked { IsLocked (F.Folder.modelled self.old.folder) }
-        requires reaches { IfModelled (F.Folder.modelled self.old.folder) (λ s. offset ≤ length (s.content (F.Folder.number (rc_value file.now.file))).octets) }
+        requires reaches { IfModelled (F.Folder.modelled self.old.folder) (λ s. offset ≤ length (s.content (F.Folder.number (arc_value file.now.file))).octets) }
         ensures count { IfOk result (λ n. n ≤ length from.now) }
-        ensures wrote { IfOk result (λ n. F.Folder.modelled self.new.folder ≡ done_by (with_content (F.Folder.number (rc_value file.now.file)) (written offset (take n from.now))) (F.Folder.modelled self.old.folder)) }
+        ensures wrote { IfOk result (λ n. F.Folder.modelled self.new.folder ≡ done_by (with_content (F.Folder.number (arc_value file.now.file)) (written offset (take n from.now))) (F.Folder.modelled self.old.folder)) }
         ensures interrupted { IsErrOf result Interrupted → F.Folder.modelled self.new.folder ≡ F.Folder.modelled self.old.folder }
-        ensures failed { OnErr result (IsPartlyDone (F.Folder.number (rc_value file.now.file)) (IsHalfWritten offset (length from.now)) (F.Folder.modelled self.old.folder) (F.Folder.modelled self.new.folder)) }
+        ensures failed { OnErr result (IsPartlyDone (F.Folder.number (arc_value file.now.file)) (IsHalfWritten offset (length from.now)) (F.Folder.modelled self.old.folder) (F.Folder.modelled self.new.folder)) }
         ensures passed { HasPassed (F.Folder.modelled self.old.folder) (F.Folder.past self.old.folder) (F.Folder.modelled self.new.folder) (F.Folder.past self.new.folder) }
         ensures unsynced { OnOk result (IsOpenAs file.now.id false self.new.files.files.items) }
         ensures marked { AreMarked file.now.id false self.new.files.files.items }
@@ -188,9 +188,9 @@ impl<F: Folder + Drop> Folder for KeptFolder<F> {
 
     fn set_length(&mut self, file: &KeptFile<F::File>, end: u64) -> Result<(), CallError>
         requires locked { IsLocked (F.Folder.modelled self.old.folder) }
-        requires reaches { IfModelled (F.Folder.modelled self.old.folder) (λ s. end ≤ length (s.content (F.Folder.number (rc_value file.now.file))).octets) }
-        ensures cut { OnOk result (F.Folder.modelled self.new.folder ≡ done_by (with_content (F.Folder.number (rc_value file.now.file)) (cut_to end)) (F.Folder.modelled self.old.folder)) }
-        ensures failed { OnErr result (IsPartlyDone (F.Folder.number (rc_value file.now.file)) (IsHalfCut end) (F.Folder.modelled self.old.folder) (F.Folder.modelled self.new.folder)) }
+        requires reaches { IfModelled (F.Folder.modelled self.old.folder) (λ s. end ≤ length (s.content (F.Folder.number (arc_value file.now.file))).octets) }
+        ensures cut { OnOk result (F.Folder.modelled self.new.folder ≡ done_by (with_content (F.Folder.number (arc_value file.now.file)) (cut_to end)) (F.Folder.modelled self.old.folder)) }
+        ensures failed { OnErr result (IsPartlyDone (F.Folder.number (arc_value file.now.file)) (IsHalfCut end) (F.Folder.modelled self.old.folder) (F.Folder.modelled self.new.folder)) }
         ensures passed { HasPassed (F.Folder.modelled self.old.folder) (F.Folder.past self.old.folder) (F.Folder.modelled self.new.folder) (F.Folder.past self.new.folder) }
         ensures unsynced { OnOk result (IsOpenAs file.now.id false self.new.files.files.items) }
         ensures marked { AreMarked file.now.id false self.new.files.files.items }
@@ -204,7 +204,7 @@ impl<F: Folder + Drop> Folder for KeptFolder<F> {
 
     fn sync(&mut self, file: &KeptFile<F::File>) -> Result<(), CallError>
         requires locked { IsLocked (F.Folder.modelled self.old.folder) }
-        ensures synced { OnOk result (F.Folder.modelled self.new.folder ≡ done_by (with_synced_file (F.Folder.number (rc_value file.now.file))) (F.Folder.modelled self.old.folder)) }
+        ensures synced { OnOk result (F.Folder.modelled self.new.folder ≡ done_by (with_synced_file (F.Folder.number (arc_value file.now.file))) (F.Folder.modelled self.old.folder)) }
         ensures failed { OnErr result (IsDoneOrNot with_failed_sync (F.Folder.modelled self.old.folder) (F.Folder.modelled self.new.folder)) }
         ensures passed { HasPassed (F.Folder.modelled self.old.folder) (F.Folder.past self.old.folder) (F.Folder.modelled self.new.folder) (F.Folder.past self.new.folder) }
         ensures marked { OnOk result (AreMarked file.now.id true self.new.files.files.items) }

@@ -16,6 +16,7 @@ pub mod SoundLemmas
 pub mod SparedLemmas
 pub mod TellsUsesLemmas
 pub mod TraceLemmas
+pub mod TurnedLemmas
 pub mod UnpinnedLemmas
 pub mod WaitingLemmas
 pub mod WithLemmas

@@ -1,4 +1,4 @@
--- Events of lanes in rounds, one after another.
+-- Events of lanes, one after another, in rounds or in whatever order.
 use Rattle.std.proofs.Common.{◌≡◌, ◌<◌, ◌≤◌, ◌+◌, ◌-◌, ℕ, zero, suc, Bool, true, false, cond, List, [], ◌∷◌, ◌++◌, map, slice_set, Option, Some, None, refl, sym, ◌∙◌, ap, subst, arith, inl, inr}
 use Rattle.std.specs.Prelude.{◌≢◌, ◌⊎◌, length, nat_lt, slice_get}
 use Rattle.std.proofs.lemmas.Grind.{common_steps}
@@ -6,13 +6,13 @@ use Rattle.std.proofs.lemmas.List.{append-nil, append_assoc, length-set}
 use Rattle.disk_model.specs.Disk.{Faults, History, told_calls}
 use Rattle.mdbox_base.specs.declared.replies.Reply.{Reply}
 use Rattle.mdbox_base.specs.declared.script.JournalEntry.{JournalEntry}
-use Rattle.model_lists.specs.Lists.{Lists}
-use Rattle.list_machine.specs.Run.{Run, RunEvent, and_then}
-use Rattle.journal.specs.Journal.{Broken, HasReply, IsFirstPart, JournalStep, Requests}
+use Rattle.list_machine.specs.Run.{RunEvent, and_then}
+use Rattle.journal.specs.Journal.{HasReply, IsFirstPart, JournalStep}
 use Rattle.serving.specs.Lanes.{replies_behind}
 use Rattle.serving.proofs.LaneLemmas.{get_set_other, nat_cases, one_some}
-use Rattle.task_steps.specs.Step.{Seen, ended_by}
+use Rattle.task_steps.specs.Step.{ended_by}
 use Rattle.lanes.specs.Rows.{LaneRow}
+use Rattle.lanes.specs.Turned.{GoesOnInOrder}
 use Rattle.lanes.specs.Worlds.{AreAdded, AreIdleBetween, GoesInRounds, GoesOnBy, IsIdleLane, IsLaneEvent, IsNextBusy, IsServedOn, IsWorldOf, KeepsWorld, WorldValue, and_events, turns_behind}
 use Rattle.lanes.proofs.SoundLemmas.{replies_many}
 use Rattle.lanes.proofs.TraceLemmas.{as_finished, world_finished}
@@ -37,10 +37,17 @@ rounds_more {D} last lane [] old mid new before between after first next second 
 rounds_more {D} last lane (a ∷ lanes) old mid new before between after first next second g busy event turns =
     (g.0, g.1, g.2, g.3, g.4, g.5, rounds_more a lane lanes g.0 mid new g.1 between after g.2 next second g.6 busy event turns)
 
+-- ---- in whatever order
+
+-- Events in rounds are events in some order.
+pub in_order : {D : Type 0} → (last : ℕ) (lanes : List ℕ) (old new : WorldValue D) (before after : Option History) (first second : Faults) → GoesInRounds last lanes old new before after first second → GoesOnInOrder lanes old new before after first second
+in_order last [] old new before after first second g = g
+in_order last (lane ∷ lanes) old new before after first second g = (g.0, g.1, g.2, g.4, g.5, in_order lane lanes g.0 new g.1 after g.2 second g.6)
+
 -- ---- the world of a script
 
-rounds_serve : {D : Type 0} → (last : ℕ) (lanes : List ℕ) (old new : WorldValue D) (before after : Option History) (first second : Faults) → GoesInRounds last lanes old new before after first second → IsServedOn lanes old new before after first second
-rounds_serve {D} last [] old new before after first second g start script run steps failed began is = (
+pub in_order_serves : {D : Type 0} → (lanes : List ℕ) (old new : WorldValue D) (before after : Option History) (first second : Faults) → GoesOnInOrder lanes old new before after first second → IsServedOn lanes old new before after first second
+in_order_serves {D} [] old new before after first second g start script run steps failed began is = (
   [],
   [],
   failed,
@@ -51,9 +58,9 @@ rounds_serve {D} last [] old new before after first second g start script run st
       (subst (λ (js : List JournalStep). IsWorldOf start script (and_events run []) js failed began before first old) (sym (append-nil steps))
       (subst (λ (es : List RunEvent). IsWorldOf start script (record run { events = es }) steps failed began before first old) (sym (append-nil run.events)) is)))),
 )
-rounds_serve {D} last (lane ∷ lanes) old new before after first second g start script run steps failed began is =
-    let e = g.4.goes start script run steps failed began is in
-    let r = rounds_serve lane lanes g.0 new g.1 after g.2 second g.6 start script (and_then run e.0) (steps ++ e.1) e.2 began e.4 in (
+in_order_serves {D} (lane ∷ lanes) old new before after first second g start script run steps failed began is =
+    let e = g.3.goes start script run steps failed began is in
+    let r = in_order_serves lanes g.0 new g.1 after g.2 second g.5 start script (and_then run e.0) (steps ++ e.1) e.2 began e.4 in (
       e.0 ∷ r.0,
       e.1 ++ r.1,
       r.2,
@@ -64,7 +71,7 @@ rounds_serve {D} last (lane ∷ lanes) old new before after first second g start
 
 pub served_on : {D : Type 0} → (lanes : List ℕ) (old new : WorldValue D) (before after : Option History) (first second : Faults) → GoesOnBy lanes old new before after first second → IsServedOn lanes old new before after first second
 served_on lanes old new before after first second g start script run steps failed began is =
-    rounds_serve 0 lanes (as_finished old) new before after first second g start script run steps failed began (world_finished start script run steps failed began before first old is)
+    in_order_serves lanes (as_finished old) new before after first second (in_order 0 lanes (as_finished old) new before after first second g) start script run steps failed began (world_finished start script run steps failed began before first old is)
 
 -- ---- what stays of every world
 
@@ -111,7 +118,7 @@ ran_so : (old new : Bool) → (old ≡ true → new ≡ true) → new ≡ false 
 ran_so true new stays runs = absurd (let z : true ≡ false = sym (stays refl) ∙ runs in cc z)
 ran_so false new stays runs = refl
 
-keeps_then : {D : Type 0} → (old mid new : WorldValue D) (before between after : Option History) (first counted second : Faults) → KeepsWorld old mid before between first counted → KeepsWorld mid new between after counted second → KeepsWorld old new before after first second
+pub keeps_then : {D : Type 0} → (old mid new : WorldValue D) (before between after : Option History) (first counted second : Faults) → KeepsWorld old mid before between first counted → KeepsWorld mid new between after counted second → KeepsWorld old new before after first second
 keeps_then old mid new before between after first counted second a b = record {
   replies = λ i given has. b.replies i given (a.replies i given has);
   requests = b.requests ∙ a.requests;
@@ -128,7 +135,7 @@ keeps_then old mid new before between after first counted second a b = record {
   room = b.room ∙ a.room;
 }
 
-keeps_itself : {D : Type 0} → (world : WorldValue D) (history : Option History) (faults : Faults) → KeepsWorld world world history history faults faults
+pub keeps_itself : {D : Type 0} → (world : WorldValue D) (history : Option History) (faults : Faults) → KeepsWorld world world history history faults faults
 keeps_itself world history faults = record {
   replies = λ i given has. has;
   requests = refl;
@@ -145,14 +152,14 @@ keeps_itself world history faults = record {
   room = refl;
 }
 
-rounds_keep : {D : Type 0} → (last : ℕ) (lanes : List ℕ) (old new : WorldValue D) (before after : Option History) (first second : Faults) → GoesInRounds last lanes old new before after first second → KeepsWorld old new before after first second
-rounds_keep last [] old new before after first second g =
+pub in_order_keeps : {D : Type 0} → (lanes : List ℕ) (old new : WorldValue D) (before after : Option History) (first second : Faults) → GoesOnInOrder lanes old new before after first second → KeepsWorld old new before after first second
+in_order_keeps [] old new before after first second g =
     subst (λ (w : WorldValue _). KeepsWorld old w before after first second) (sym g.0)
     (subst (λ (h : Option History). KeepsWorld old old before h first second) (sym g.1) (subst (λ (f : Faults). KeepsWorld old old before before first f) (sym g.2) (keeps_itself old before first)))
-rounds_keep last (lane ∷ lanes) old new before after first second g = keeps_then old g.0 new before g.1 after first g.2 second (event_keeps lane old g.0 before g.1 first g.2 g.4) (rounds_keep lane lanes g.0 new g.1 after g.2 second g.6)
+in_order_keeps (lane ∷ lanes) old new before after first second g = keeps_then old g.0 new before g.1 after first g.2 second (event_keeps lane old g.0 before g.1 first g.2 g.3) (in_order_keeps lanes g.0 new g.1 after g.2 second g.5)
 
 pub rounds_keep_world : {D : Type 0} → (lanes : List ℕ) (old new : WorldValue D) (before after : Option History) (first second : Faults) → GoesOnBy lanes old new before after first second → KeepsWorld old new before after first second
-rounds_keep_world lanes old new before after first second g = let k = rounds_keep 0 lanes (as_finished old) new before after first second g in record {
+rounds_keep_world lanes old new before after first second g = let k = in_order_keeps lanes (as_finished old) new before after first second (in_order 0 lanes (as_finished old) new before after first second g) in record {
   replies = k.replies;
   requests = k.requests;
   scripted = k.scripted;

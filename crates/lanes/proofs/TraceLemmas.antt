@@ -131,9 +131,9 @@ abbrev pub as_finished : {D : Type 0} → WorldValue D → WorldValue D
 as_finished world = record world { finished = true }
 
 -- an event that finishes the lanes is one of the world as it is finished
-pub finishing : {D : Type 0} → (lane : ℕ) (old new : WorldValue D) (before after : Option History) (first second : Faults) → 1 ≤ lane → Works (lane - 1) old new before after first second → IsSoundWorld before old
+pub finishing : {D : Type 0} → (lane : ℕ) (old new : WorldValue D) (before after : Option History) (first second : Faults) → 1 ≤ lane → Works (lane - 1) old new before after first second → old.began ≤ 2 ^ 64 - 1 → length old.replies ≤ 100000
     → IsLaneEvent lane (as_finished old) (as_finished new) before after first second × (new.turns ≡ old.turns)
-finishing {D} lane old new before after first second some works sound = (one_event lane (as_finished old) (as_finished new) before after first second some sound.clock sound.short w trace, works.turns_are)
+finishing {D} lane old new before after first second some works clock few = (one_event lane (as_finished old) (as_finished new) before after first second some clock few w trace, works.turns_are)
   where
     w : Works (lane - 1) (as_finished old) (record (as_finished new) { turns = old.turns }) before after first second
     w = other_turns (lane - 1) (as_finished old) new (record (as_finished new) { turns = old.turns }) old.turns old.finished before after first second works refl

@@ -17,7 +17,7 @@ use Rattle.serving.specs.Serving.{AreIdle}
 use Rattle.serving.specs.Turns.{IsTraceOf, LaneTurn}
 use Rattle.store_core.specs.Value.{StoreValue}
 use Rattle.task_steps.specs.Step.{Seen, ended_by}
-use Rattle.attach_detach.specs.Prepared.{IsPrepared}
+use Rattle.attach_detach.specs.Prepared.{IsTakenApart}
 use Rattle.attach_detach.specs.declared.message.Prepared.{Prepared}
 use Rattle.mdbox_base.specs.declared.requests.Request.TheVariants as request
 use Rattle.lane_tasks.specs.Tasks.{BeginsTask, HasTask, IsReadyTask, claims_at, work_left}
@@ -117,10 +117,9 @@ turn_of lane idle = record { lane = lane; idle = idle }
 abbrev pub AreOfLanes : ℕ → Requests → Type 0
 AreOfLanes lanes script = All (λ asked. (0 < asked.0) × (asked.0 ≤ lanes)) script
 
--- What a request is given beside: a delivery its message, prepared, of 67,108,864 octets at the most, and every other request nothing.
+-- What a request is given beside: a delivery its message, taken apart, of 67,108,864 octets at the most, and every other request nothing.
 abbrev pub HasItsMessage : Request → Option Prepared → Type 0
-HasItsMessage (request.Deliver name time octets) (Some prepared) = (length octets ≤ 67108864) × IsPrepared octets prepared
-HasItsMessage (request.Deliver name time octets) None = ⊥
+HasItsMessage (request.Deliver name time octets) given = (length octets ≤ 67108864) × IsTakenApart octets given
 HasItsMessage asked given = HasTask asked × (given ≡ None)
 
 abbrev pub AreGiven : Requests → List (Option Prepared) → Type 0

@@ -12,6 +12,7 @@ ghost use Rattle.journal.specs.Journal.{AreEntriesOf, Broken, HasReply, JournalS
 ghost use Rattle.journal.specs.Makes.{HasCome};
 ghost use Rattle.serving.specs.Lanes.{replies_behind};
 ghost use Rattle.serving.specs.Serving.{AreIdle, HaveLanes, unreplied};
+ghost use Rattle.serving.specs.Turns.{LaneTurn, lanes_worked};
 ghost use Rattle.store_core.specs.Value.{StoreValue};
 ghost use Rattle.store_seen.specs.Seeing.{IsAtOpening};
 ghost use Rattle.task_claims.specs.Claims.{HasNoTask};
@@ -21,6 +22,7 @@ ghost use Rattle.purge_task.specs.Clause.{TellsUses};
 ghost use Rattle.lanes.specs.Asked.{GoesWith, HasNoIdleTurn, IsRequestAsked, IsOnlyLeft, asked_in, events_of};
 ghost use Rattle.lanes.specs.Going.{AddsEvent, AreFreshRows, FindsMessages, IsGoing};
 ghost use Rattle.lanes.specs.Rows.{LaneRow, RowGoesOn, lanes_of};
+ghost use Rattle.lanes.specs.Turned.{GoesInTurns, GoesOnInOrder, HasRun, WentOn, untraced};
 ghost use Rattle.lanes.specs.Worlds.{AreEntriesAt, ArePartsOf, GoesOnBy, IsFreshWorld, IsLaneEvent, IsServedOn, IsSoundWorld, IsWorldOf, KeepsWorld, PartsValue, WorldValue};
 ghost use Rattle.lanes.specs.declared.lane.LaneEvent.{LaneEvent};
 
@@ -96,4 +98,35 @@ pub fn worlds_go_with<D: Disk>()
     ensures keeps { (moves : List (ℕ × Option Request)) (old new : WorldValue D) → GoesWith D.history D.faults moves old new → (length new.rows ≡ length old.rows) × (new.finished ≡ old.finished) × (new.began ≡ old.began) × (length new.replies ≡ length old.replies + length (asked_in moves)) }
     ensures follow { (first second : List (ℕ × Option Request)) (old mid new : WorldValue D) → GoesWith D.history D.faults first old mid → GoesWith D.history D.faults second mid new → GoesWith D.history D.faults (first ++ second) old new }
     ensures own { (lanes : List ℕ) (last : ℕ) (old new : WorldValue D) → GoesWith D.history D.faults (events_of lanes) old new → IsOnlyLeft last old.replies → (more : List JournalEntry) × (new.journal ≡ old.journal ++ more) × All (λ entry. entry.request ≡ last) more × IsOnlyLeft last new.replies }
+{}
+
+/// What turns make of a world, in whatever order of lanes. Of whatever script and run it was, it is one of the run with the events of those
+/// turns; it keeps what events keep; and they are added to its trace.
+pub fn turns_go_on<D: Disk>()
+    ensures serves { (turns : List LaneTurn) (old new : WorldValue D) → GoesInTurns D.history D.faults turns old new → IsServedOn (lanes_worked turns) old new (D.history old.store.disk) (D.history new.store.disk) (D.faults old.store.disk) (D.faults new.store.disk) }
+    ensures keeps { (turns : List LaneTurn) (old new : WorldValue D) → GoesInTurns D.history D.faults turns old new → KeepsWorld old new (D.history old.store.disk) (D.history new.store.disk) (D.faults old.store.disk) (D.faults new.store.disk) }
+    ensures traces { (turns : List LaneTurn) (old new : WorldValue D) → GoesInTurns D.history D.faults turns old new → (new.turns ≡ old.turns ++ turns) × (new.finished ≡ old.finished) }
+{}
+
+/// What events make of a world, in whatever order of lanes. Of whatever script and run it was, it is one of the run with events of those
+/// lanes; and it keeps what events keep. Without its turns a world is of the same scripts and runs.
+pub fn events_are_in_order<D: Disk>()
+    ensures serves { (lanes : List ℕ) (old new : WorldValue D) (before after : Option History) (first second : Faults) → GoesOnInOrder lanes old new before after first second → IsServedOn lanes old new before after first second }
+    ensures keeps { (lanes : List ℕ) (old new : WorldValue D) (before after : Option History) (first second : Faults) → GoesOnInOrder lanes old new before after first second → KeepsWorld old new before after first second }
+    ensures untraced { (start : Lists) (script : Requests) (run : Run) (steps : List JournalStep) (failed : Broken) (began : Seen) (history : Option History) (faults : Faults) (world : WorldValue D) → IsWorldOf start script run steps failed began history faults world → IsWorldOf start script run steps failed began history faults (untraced world) }
+{}
+
+/// Turns are events of the lanes whose turns weren't idle, one after another, of worlds without their turns.
+pub fn turns_are_events<D: Disk>()
+    ensures { (turns : List LaneTurn) (old new : WorldValue D) → IsSoundWorld (D.history old.store.disk) old → GoesInTurns D.history D.faults turns old new → GoesOnInOrder (lanes_worked turns) (untraced old) (untraced new) (D.history old.store.disk) (D.history new.store.disk) (D.faults old.store.disk) (D.faults new.store.disk) }
+{}
+
+/// So are events in rounds.
+pub fn rounds_are_events<D: Disk>()
+    ensures { (lanes : List ℕ) (old new : WorldValue D) (before after : Option History) (first second : Faults) → IsSoundWorld before old → GoesOnBy lanes old new before after first second → GoesOnInOrder lanes (untraced old) (untraced new) before after first second }
+{}
+
+/// So are turns and then events in rounds.
+pub fn runs_are_events<D: Disk>()
+    ensures { (trace : List LaneTurn) (old new : WorldValue D) → HasRun D.history D.faults old trace new → WentOn D.history D.faults old new }
 {}

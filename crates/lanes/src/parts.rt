@@ -8,7 +8,7 @@ ghost use Rattle.lanes.specs.Worlds.{AreGiven, AreOfLanes, ArePartsOf, AreRowsFr
 use crate::lane::{Lane, Queued};
 use crate::replies::Replies;
 use crate::turn::Turn;
-use attach_detach::Prepared;
+use attach_detach::{Prepared, plain, plain_messages_are_prepared};
 use lane_tasks::Task;
 use mdbox_base::{JournalEntry, NoMemory, Request, Script, Seq};
 use std::alloc::Global;
@@ -88,9 +88,16 @@ pub(crate) fn task_for(request: Request, given: Option<Prepared>) -> Task
     ensures { BeginsTask request result }
 {
     match request {
-        Request::Deliver { name, time, .. } => match given {
+        Request::Deliver {
+            name,
+            time,
+            message,
+        } => match given {
             Some(prepared) => Task::delivery(name, time, prepared),
-            None => unreachable!(),
+            None => {
+                plain_messages_are_prepared();
+                Task::delivery(name, time, plain(message))
+            }
         },
         other => Task::of(other),
     }

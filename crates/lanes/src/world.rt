@@ -114,6 +114,8 @@ impl<D: Disk> World<D> {
         ensures idle { result ≡ turned.Idle → IsIdleLane lane self.old.rows × (self.new ≡ record self.old { turns = self.old.turns ++ turn_of lane true ∷ [] }) }
         // or the trace has no room for the turn, and nothing changes.
         ensures none { result ≡ turned.NoMemory → (self.old.turn_room ≤ length self.old.turns) × (self.new ≡ self.old) }
+        // Whoever gives a lane turn after turn comes to an end.
+        ensures left { result ≡ turned.Worked → world_left self.new < world_left self.old }
     {
         let idle = self.lanes[(lane - 1) as usize].is_idle();
         if self.turns.push(Turn { lane, idle }).is_err() {
@@ -219,6 +221,13 @@ impl<D: Disk> World<D> {
         keep_broken(&mut self.broken, lane, &event, broken);
         keep_count(&mut self.replied, place, &event.ended);
         keep_reply(&mut self.replies, event.place as usize, event.ended);
+    }
+
+    /// How many lanes it has.
+    pub fn lanes(&self) -> u32
+        ensures { (result ≡ length self.now.rows) × (result ≤ 64) }
+    {
+        self.lanes.len() as u32
     }
 
     /// For how many turns the trace has room without taking memory: 16 for each request, and one for each lane.

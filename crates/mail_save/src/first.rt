@@ -69,7 +69,7 @@ fn parts_of(
     ensures laid { IfOk result (λ begun. AreLaidOut name.now time prepared (unknown_ids prepared.parts) begun.0) }
     ensures rows { IfOk result (λ begun. begun.0.rows ≡ []) }
 {
-    let laid = lay_out(alloc, name, time, &prepared)?;
+    let (laid, detached) = lay_out(alloc, name, time, prepared)?;
     let mut header = Octets::empty(alloc);
     push_file_header(alloc, &mut header, time)?;
     let parts = SavedParts {
@@ -78,5 +78,5 @@ fn parts_of(
         rows: Seq::empty(alloc),
         room: LowerRoom::of(alloc)?,
     };
-    Ok((parts, Attaching::of(alloc, prepared.parts)?))
+    Ok((parts, Attaching::of(alloc, detached)?))
 }

@@ -117,9 +117,9 @@ pub fn place_region<D: Disk>(
     };
     let guid = guid_at(store.id(), file, end as u32);
     laid.set_guid(guid);
-    let region = laid.region();
-    let offset = store.place(file, region)?;
-    let size = region.len() as u32;
+    let (front, body, back) = laid.texts();
+    let offset = store.place_texts(file, front, body, back)?;
+    let size = laid.length();
     Ok(SavedAt {
         file,
         offset,

@@ -297,7 +297,7 @@ fn taking<D: Disk>(store: &mut Store<D>, name: &Name, time: u64, parts: SavedPar
     ensures { (size : ℕ) → Saves (stage.Taking parts) result.next name.now time size result.answer result.did store.old store.new (D.history store.old.disk) (D.history store.new.disk) (D.faults store.old.disk) (D.faults store.new.disk) }
 {
     let _name = name.as_octets();
-    let size = parts.laid.region().len() as u32;
+    let size = parts.laid.length();
     match take_file(store, parts.header.as_slice(), size) {
         Ok(file) => goes_on(SaveStage::Placing { parts, file }),
         Err(why) => {

@@ -1,1 +1,2 @@
 mod EmptyLemmas
+mod SendLemmas

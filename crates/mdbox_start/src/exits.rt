@@ -10,14 +10,16 @@ ghost use Rattle.request_text.specs.declared.outcome.Outcome.TheVariants as outc
 
 use disk_model::Disk;
 use mdbox_base::{Clock, NoMemory, Sink, Source};
+use mdbox_threads::NoPause;
 use mdbox_top::{Status, mdbox_run};
 use request_text::{Outcome, report};
 use std::alloc::Global;
 use std::process::ExitCode;
+use std::sync::Wait;
 use std::thread::Threads;
 
 /// Runs the words, or tells that there was no memory for them, and answers that status.
-pub fn run<R: Threads + Sync, D: Disk, I: Source, O: Sink, E: Sink, C: Clock>(
+pub fn run<R: Threads + Wait + Sync, D: Disk + Send, I: Source, O: Sink, E: Sink, C: Clock>(
     rt: &R,
     alloc: Global,
     words: Result<Vec<String>, NoMemory>,
@@ -55,6 +57,7 @@ pub fn run<R: Threads + Sync, D: Disk, I: Source, O: Sink, E: Sink, C: Clock>(
                 output,
                 errors,
                 clock,
+                &NoPause,
             );
             (status, disk)
         }

@@ -14,11 +14,19 @@ use folder_model::Folder;
 use mdbox_base::{Clock, NoMemory, Sink, Source};
 use request_text::Status;
 use std::alloc::Global;
+use std::sync::Wait;
 use std::thread::Threads;
 
 /// Runs the words over the files of a folder, and answers the status of that run. Over a folder that is modelled, all that
 /// `mdbox_run` says of a disk's content is so of the disk over it, which begins as the folder stands.
-pub fn run_in<R: Threads + Sync, F: Folder + Drop, I: Source, O: Sink, E: Sink, C: Clock>(
+pub fn run_in<
+    R: Threads + Wait + Sync,
+    F: Folder + Drop + Send,
+    I: Source,
+    O: Sink,
+    E: Sink,
+    C: Clock,
+>(
     rt: &R,
     alloc: Global,
     words: Result<Vec<String>, NoMemory>,
@@ -28,6 +36,8 @@ pub fn run_in<R: Threads + Sync, F: Folder + Drop, I: Source, O: Sink, E: Sink, 
     errors: &mut E,
     clock: &mut C,
 ) -> (Status, FolderDisk<KeptFolder<F>>)
+where
+    F::File: Send + Sync,
     requires begun { HasBegun (F.Folder.modelled folder) (F.Folder.past folder) }
     requires store { IfModelled (F.Folder.modelled folder) IsStoreSystem }
     ensures run { IfOk words (λ given. (command : Command) → Says (map string_bytes given.items) command

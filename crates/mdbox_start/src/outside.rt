@@ -14,6 +14,7 @@ use os_folder::{OsFolder, StdClock, StdSink, StdSource};
 use request_text::{Outcome, Status, report};
 use std::env;
 use std::process::ExitCode;
+use std::sync::Wait;
 use std::thread::Threads;
 
 /// How many octets a run may tell on standard error without memory. Of its end it tells two lines at most, of 150 and 200; a rebuild tells more.
@@ -21,11 +22,11 @@ const ROOM: usize = 512;
 
 /// Runs the words after the program's name on standard input, output and errors, the system's clock and the files of the
 /// current folder, and ends with the status of that run. If the numbers of closed streams can't be kept from files, it ends with 6;
-/// a rebuild beside Dovecot's own files isn't begun, and ends with 3. Only `main` may hand on its runtime as one that starts threads, so
-/// `start` is given it twice.
+/// a rebuild beside Dovecot's own files isn't begun, and ends with 3. Only `main` may hand on its runtime as one that starts threads and
+/// waits for them, so `start` is given it twice.
 ///
 /// What the run tells of its end is held until then. It isn't told if the reader of the output has gone, and more may be told after it.
-pub fn start<R: Threads + Sync>(rt: &R, host: HostRuntime) -> ExitCode
+pub fn start<R: Threads + Wait + Sync>(rt: &R, host: HostRuntime) -> ExitCode
     ensures { exit_status result ≤ 8 }
 {
     let mut errors = StdSink::of(host.stderr());

@@ -23,7 +23,7 @@ IsDeliveryAt script place = (asked : ℕ × Request) × (slice_get script place 
 -- What came of a request's message: it is what the request is given beside, or there was no memory for it.
 abbrev pub IsMadeOf : Request → Made → Type 0
 IsMadeOf asked made.Waiting = ⊥
-IsMadeOf asked (made.Ready prepared) = HasItsMessage asked (Some prepared)
+IsMadeOf asked (made.Ready given) = HasItsMessage asked given
 IsMadeOf asked made.NoMemory = Unit {0}
 
 -- the job is done: what came of it is of the message at its place

@@ -1,1 +1,4 @@
+pub mod Handed
 pub mod Jobs
+pub mod Traces
+pub mod Work

@@ -129,7 +129,7 @@ fn next_given(jobs: &mut IntoIter<Job>, asked: &Request) -> Result<Option<Prepar
         unreachable!()
     };
     match job.made {
-        Made::Ready(prepared) => Ok(Some(prepared)),
+        Made::Ready(given) => Ok(given),
         Made::NoMemory => Err(NoMemory),
         Made::Waiting => unreachable!(),
     }

@@ -3,7 +3,7 @@ ghost use Rattle.std.specs.Prelude.{◌≡◌, All, IfOk, map};
 ghost use Rattle.script_text.specs.Script.{FitsScript};
 ghost use Rattle.mdbox_threads.specs.Jobs.{IsDeliveryAt, IsDoneOf, places_from};
 
-use attach_detach::{Prepared, prepare};
+use attach_detach::{Prepared, take_apart};
 use mdbox_base::{NoMemory, Request};
 use std::alloc::Global;
 
@@ -19,7 +19,8 @@ pub(crate) struct Job {
 pub(crate) enum Made {
     /// It wasn't prepared yet.
     Waiting,
-    Ready(Prepared),
+    /// With its attachments taken out, or None where it has none.
+    Ready(Option<Prepared>),
     /// There was no memory for it.
     NoMemory,
 }
@@ -48,8 +49,8 @@ pub(crate) fn do_job(alloc: Global, requests: &[(u32, Request)], job: &mut Job)
     let Request::Deliver { message, .. } = &requests[job.place].1 else {
         unreachable!()
     };
-    job.made = match prepare(alloc, message.as_slice()) {
-        Ok(prepared) => Made::Ready(prepared),
+    job.made = match take_apart(alloc, message.as_slice()) {
+        Ok(given) => Made::Ready(given),
         Err(NoMemory) => Made::NoMemory,
     };
 }

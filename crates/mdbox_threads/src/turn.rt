@@ -3,7 +3,7 @@ ghost use Rattle.std.specs.Prelude.{All, IfOk};
 ghost use Rattle.lanes.specs.Worlds.{AreGiven, HasItsMessage};
 ghost use Rattle.script_text.specs.Script.{FitsScript};
 
-use attach_detach::{Prepared, prepare};
+use attach_detach::{Prepared, take_apart};
 use mdbox_base::{NoMemory, Request, Seq};
 use std::alloc::Global;
 
@@ -22,13 +22,13 @@ pub fn prepare_in_turn(
     Ok(prepared)
 }
 
-/// What a request is given beside: a delivery its message with its attachments taken out, any other nothing.
+/// What a request is given beside: a delivery its message with its attachments taken out, unless it has none; any other nothing.
 fn prepare_message(alloc: Global, asked: &Request) -> Result<Option<Prepared>, NoMemory>
     requires { FitsScript asked.now }
     ensures { IfOk result (HasItsMessage asked.now) }
 {
     match asked {
-        Request::Deliver { message, .. } => Ok(Some(prepare(alloc, message.as_slice())?)),
+        Request::Deliver { message, .. } => take_apart(alloc, message.as_slice()),
         _ => Ok(None),
     }
 }

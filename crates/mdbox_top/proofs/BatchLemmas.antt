@@ -20,6 +20,7 @@ use Rattle.mdbox_base.specs.declared.stream.InputError.{InputError}
 use Rattle.mdbox_base.specs.declared.stream.InputError.TheVariants as read
 use Rattle.model_lists.specs.Lists.{Lists}
 use Rattle.model_store.specs.Settled.{IsSettledFor}
+use Rattle.store_core.specs.Value.{StoreValue}
 use Rattle.store_open.specs.declared.error.OpenError.{OpenError}
 use Rattle.store_open.specs.declared.error.OpenError.TheVariants as error
 use Rattle.request_text.specs.BatchText.{batch_text}
@@ -31,6 +32,7 @@ use Rattle.request_text.specs.declared.outcome.Outcome.{Outcome}
 use Rattle.request_text.specs.declared.outcome.Outcome.TheVariants as outcome
 use Rattle.script_run.specs.Done.{IsScriptDone}
 use Rattle.script_run.specs.Faults.{FaultsByReplies, HasReadFault}
+use Rattle.script_run.specs.LeftOpen.{IsServedOpen}
 use Rattle.script_run.specs.Opening.{AreSafeFor, IsUnopened}
 use Rattle.script_run.specs.Script.{HasStopped}
 use Rattle.script_run.specs.Worked.{IsWorkedOut}
@@ -118,6 +120,16 @@ replies_whole text replies h k a = by_outcome (ShowsAs text replies h k) replies
 pub shown_as : (journal j : List JournalEntry) (replies r : List (Option Reply)) (given : List Reply) (h k : Option (List ℕ)) (o : Outcome) → j ≡ journal → r ≡ replies → replies ≡ map Some given → ShowsReplies (batch_text j r) r h k o → ShowsReplies (batch_text journal (map Some given)) (map Some given) h k o
 shown_as journal j replies r given h k o e f g s =
     subst (λ (x : List (Option Reply)). ShowsReplies (batch_text journal x) x h k o) (f ∙ g) (subst (λ (x : List JournalEntry). ShowsReplies (batch_text x r) r h k o) e s)
+
+-- the disk of a store that a script left open, once it is handed back
+pub handed_back : {D : Type 0} → (history : D → Option History) (faults : D → Faults) (script : Requests) (replies : List (Option Reply)) (entries : List JournalEntry) (old : Option History) (began : Faults) (store : StoreValue D) (disk : D) → disk ≡ store.disk
+    → (given : List Reply) × (replies ≡ map Some given) × IsServedOpen script given entries old (history store.disk) began (faults store.disk) store → (given : List Reply) × (replies ≡ map Some given) × IsScriptDone script given entries old (history disk) began (faults disk)
+handed_back {D} history faults script replies entries old began store disk back served =
+    (served.0, served.1, subst (λ (d : D). IsScriptDone script served.0 entries old (history d) began (faults d)) (sym back) served.2.done)
+
+pub worked_back : {D : Type 0} → (history : D → Option History) (faults : D → Faults) (script : Script) (replies : List (Option Reply)) (entries : List JournalEntry) (old : Option History) (began : Faults) (left disk : D) → disk ≡ left
+    → IsWorkedOut D script.requests script.lanes replies entries old (history left) began (faults left) → IsWorkedOut D script.requests script.lanes replies entries old (history disk) began (faults disk)
+worked_back {D} history faults script replies entries old began left disk back worked = subst (λ (d : D). IsWorkedOut D script.requests script.lanes replies entries old (history d) began (faults d)) (sym back) worked
 
 pub worked_for : {D : Type 0} → (script : Script) (r replies : List (Option Reply)) (entries : List JournalEntry) (old new : Option History) (f g : Faults) → r ≡ replies → IsWorkedOut D script.requests script.lanes r entries old new f g → IsWorkedOut D script.requests script.lanes replies entries old new f g
 worked_for {D} script r replies entries old new f g same worked = subst (λ (rs : List (Option Reply)). IsWorkedOut D script.requests script.lanes rs entries old new f g) same worked

@@ -51,6 +51,7 @@ use Rattle.script_run.proofs.ToldLemmas.{shown_begins}
 use Rattle.script_run.proofs.WorkedLemmas.{worked_told}
 use Rattle.script_run.specs.LeftOpen.{IsRequestDone}
 use Rattle.script_run.specs.Worked.{IsWorkedOut}
+use Rattle.attach_detach.proofs.ApartLemmas.{taken_apart}
 use Rattle.lanes.specs.Worlds.{HasItsMessage}
 use Rattle.mdbox_base.specs.declared.requests.Request.{Request}
 use Rattle.mdbox_base.specs.declared.script.JournalEntry.{JournalEntry}
@@ -319,8 +320,9 @@ deliver_done name time octets prepared given old new began now w =
 -- a request of any kind, as the script of one request that it is
 pub alone_done : {D : Type 0} → (asked : Request) (prepared : Option Prepared) (given : Reply) (old new : Option History) (began now : Faults) → IsRequestDone asked given old new began now → (entries : List JournalEntry) × IsWorkedOut D (alone asked) 1 (Some given ∷ []) entries old new began now → HasItsMessage asked prepared → ListsAnswer → SafeAreShown
     → IsDoneAlone asked given old new began now
-alone_done (request.Deliver name time octets) (Some prepared) given old new began now w k message answer show = deliver_done name time octets prepared given old new began now (record { done = w; entries = k.0; worked = k.1; form = message.1 })
-alone_done (request.Deliver name time octets) None given old new began now w k message answer show = absurd message
+alone_done (request.Deliver name time octets) found given old new began now w k message answer show =
+    let p = taken_apart octets found message.1 in
+    deliver_done name time octets p.0 given old new began now (record { done = w; entries = k.0; worked = k.1; form = p.1 })
 alone_done (request.Fetch name uid) prepared given old new began now w k message answer show = fetch_done name uid given k.0 old new began now w k.1 show
 alone_done request.Resync prepared given old new began now w k message answer show = resync_done given old new began now w
 alone_done request.Purge prepared given old new began now w k message answer show = purge_done given old new began now w

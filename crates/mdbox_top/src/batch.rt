@@ -1,28 +1,36 @@
 // A script: it is read, its messages are prepared, the store is opened, its requests are done on their lanes, and the replies printed.
-ghost use Rattle.std.specs.Prelude.{◌≡◌, ◌≢◌, ◌≤◌, ◌⊎◌, ◌∷◌, [], length, Some, IfOk, IfErr, OnOk};
+ghost use Rattle.std.specs.Prelude.{◌≡◌, ◌≢◌, ◌≤◌, ◌⊎◌, ◌∷◌, [], List, length, map, Some, IfOk, IfErr, OnOk};
 ghost use Rattle.disk_model.specs.FaultCounts.{NoFault, AnyFaultCounted};
 ghost use Rattle.lanes.specs.Worlds.{AreGiven};
 ghost use Rattle.mdbox_base.specs.Streams.{Rose};
+ghost use Rattle.mdbox_base.specs.declared.replies.Reply.{Reply as ReplyValue};
 ghost use Rattle.request_text.specs.BatchText.{batch_text};
 ghost use Rattle.request_text.specs.Outcomes.{status_of};
 ghost use Rattle.request_text.specs.declared.outcome.InputRefusal.{InputRefusal};
 ghost use Rattle.request_text.specs.declared.outcome.Outcome.TheVariants as outcome;
 ghost use Rattle.script_run.specs.Done.{MayBeServed};
-ghost use Rattle.script_text.specs.Script.{IsBadAt, IsForLanes};
+ghost use Rattle.script_run.specs.LeftOpen.{IsServedOpen};
+ghost use Rattle.script_run.specs.Opening.{IsUnopened};
+ghost use Rattle.script_run.specs.Worked.{IsWorkedOut};
+ghost use Rattle.script_text.specs.Script.{IsBadAt};
 ghost use Rattle.mdbox_top.specs.BatchRun.{BatchOutcome, BatchMoments, BatchRests, HasNoScript, ReadsScript, ScriptOutcome, ScriptMoments, ScriptRests, ShowsReplies, TellsScriptFaults};
 ghost use Rattle.mdbox_top.specs.InputRun.{OfInput, IsOneOf};
 
 use crate::deliver::unread;
 use crate::opening::outcome_of;
+use crate::together::serve_script_in_threads;
 use attach_detach::Prepared;
 use disk_model::Disk;
 use mdbox_base::{JournalEntry, NoMemory, Octets, Reply, Script, Seq, Sink, Source, read_all};
-use mdbox_threads::Preparer;
+use mdbox_threads::{InThreads, Pause, Preparer};
 use piece_writer::PrintError;
 use request_text::{InputRefusal, Outcome, outcome_of_replies, print_batch};
-use script_run::{ScriptRun, run_script};
+use script_run::{ServedScript, serve_script};
 use script_text::{ScriptError, flaw_at, read_script};
 use std::alloc::Global;
+use std::snapshot::Snapshot;
+use std::sync::Wait;
+use std::thread::Threads;
 use store_open::OpenRefused;
 
 /// How many octets a script may have.
@@ -54,7 +62,52 @@ pub fn batch<P: Preparer, D: Disk, I: Source, O: Sink>(
     ensures counted { (I.faults input.old ≤ I.faults input.new) × (O.faults output.old ≤ O.faults output.new) }
 {
     match read_requests(preparer, alloc, lanes, input) {
-        Ok((script, prepared)) => run_requests(alloc, script, prepared, disk, output),
+        Ok((script, prepared)) => {
+            let task = Snapshot::of(&script);
+            let entry = Snapshot::of(&disk);
+            let served = serve_script(alloc, disk, script, prepared);
+            end_batch(alloc, &task, &entry, served, output)
+        }
+        Err(ended) => (ended, disk),
+    }
+}
+
+/// As `batch` does, but that threads prepare the messages, and serve the lanes if there are more than one.
+pub fn batch_in_threads<
+    R: Threads + Wait + Sync,
+    D: Disk + Send,
+    I: Source,
+    O: Sink,
+    P: Pause + Sync,
+>(
+    rt: &R,
+    alloc: Global,
+    lanes: u32,
+    disk: D,
+    input: &mut I,
+    output: &mut O,
+    pause: &P,
+) -> (Outcome, D)
+    requires lanes { (1 ≤ lanes) × (lanes ≤ 64) }
+    ensures ends { BatchOutcome D lanes (I.left input.old) (O.held output.old) (O.held output.new) (D.history disk) (D.history result.1) (D.faults disk) (D.faults result.1) result.0 }
+    ensures moments { BatchMoments lanes (I.left input.old) (D.history disk) (D.history result.1) }
+    ensures rests { BatchRests lanes (I.left input.old) (IsOneOf (5 ∷ 6 ∷ 8 ∷ []) (status_of result.0)) (D.faults disk) (D.faults result.1) (D.history disk) (D.history result.1) }
+    ensures disk_fault { TellsScriptFaults lanes (I.left input.old) (D.history disk) → AnyFaultCounted (result.0 ≡ outcome.DiskFault) (D.faults disk) (D.faults result.1) }
+    ensures read_fault { result.0 ≡ outcome.ReadFault → Rose (I.faults input.old) (I.faults input.new) }
+    ensures write_fault { result.0 ≡ outcome.WriteFault → Rose (O.faults output.old) (O.faults output.new) }
+    ensures disk_quiet { TellsScriptFaults lanes (I.left input.old) (D.history disk) → (IsOneOf (5 ∷ 6 ∷ 8 ∷ []) (status_of result.0) → ⊥) → NoFault (D.faults disk) (D.faults result.1) }
+    ensures uncalled { (result.0 ≡ outcome.ReadFault) ⊎ ((why : InputRefusal) × (result.0 ≡ outcome.InputRefused why)) → result.1 ≡ disk }
+    ensures read_quiet { result.0 ≢ outcome.ReadFault → I.faults input.new ≡ I.faults input.old }
+    ensures write_quiet { result.0 ≢ outcome.WriteFault → O.faults output.new ≡ O.faults output.old }
+    ensures counted { (I.faults input.old ≤ I.faults input.new) × (O.faults output.old ≤ O.faults output.new) }
+{
+    match read_requests(&InThreads { rt }, alloc, lanes, input) {
+        Ok((script, prepared)) => {
+            let task = Snapshot::of(&script);
+            let entry = Snapshot::of(&disk);
+            let served = serve_script_in_threads(rt, alloc, disk, script, prepared, pause);
+            end_batch(alloc, &task, &entry, served, output)
+        }
         Err(ended) => (ended, disk),
     }
 }
@@ -113,36 +166,36 @@ fn refused_at(alloc: Global, text: &Octets, lanes: u32, offset: u64) -> Outcome
     }
 }
 
-/// Opens the store, does the requests of a script on their lanes, prints the replies, and hands the disk back.
-fn run_requests<D: Disk, O: Sink>(
+/// Prints the replies of a script that was served from this disk, or says why its store wasn't opened, and hands the disk back.
+fn end_batch<D: Disk, O: Sink>(
     alloc: Global,
-    script: Script,
-    prepared: Seq<Option<Prepared>>,
-    disk: D,
+    script: &Snapshot<Script>,
+    disk: &Snapshot<D>,
+    served: Result<ServedScript<D>, OpenRefused<D>>,
     output: &mut O,
 ) -> (Outcome, D)
-    requires lanes { (1 ≤ script.lanes) × (script.lanes ≤ 64) }
-    requires fits { IsForLanes script }
-    requires given { AreGiven script.requests prepared }
-    ensures ends { ScriptOutcome D script (O.held output.old) (O.held output.new) (D.history disk) (D.history result.1) (D.faults disk) (D.faults result.1) result.0 }
-    ensures moments { ScriptMoments script.requests (D.history disk) (D.history result.1) }
-    ensures rests { ScriptRests script.requests (IsOneOf (5 ∷ 6 ∷ 8 ∷ []) (status_of result.0)) (D.faults disk) (D.faults result.1) (D.history disk) (D.history result.1) }
-    ensures disk_fault { MayBeServed script.requests (D.history disk) → AnyFaultCounted (result.0 ≡ outcome.DiskFault) (D.faults disk) (D.faults result.1) }
-    ensures disk_quiet { MayBeServed script.requests (D.history disk) → (IsOneOf (5 ∷ 6 ∷ 8 ∷ []) (status_of result.0) → ⊥) → NoFault (D.faults disk) (D.faults result.1) }
+    requires served { IfOk served (λ served. (given : List ReplyValue) × (served.replies ≡ map Some given) × IsServedOpen script.now.value.requests given served.journal (D.history disk.now.value) (D.history served.store.disk) (D.faults disk.now.value) (D.faults served.store.disk) served.store) }
+    requires worked { IfOk served (λ served. IsWorkedOut D script.now.value.requests script.now.value.lanes served.replies served.journal (D.history disk.now.value) (D.history served.store.disk) (D.faults disk.now.value) (D.faults served.store.disk)) }
+    requires refused { IfErr served (λ refused. IsUnopened refused.error (D.history disk.now.value) (D.history refused.disk) (D.faults disk.now.value) (D.faults refused.disk)) }
+    ensures ends { ScriptOutcome D script.now.value (O.held output.old) (O.held output.new) (D.history disk.now.value) (D.history result.1) (D.faults disk.now.value) (D.faults result.1) result.0 }
+    ensures moments { ScriptMoments script.now.value.requests (D.history disk.now.value) (D.history result.1) }
+    ensures rests { ScriptRests script.now.value.requests (IsOneOf (5 ∷ 6 ∷ 8 ∷ []) (status_of result.0)) (D.faults disk.now.value) (D.faults result.1) (D.history disk.now.value) (D.history result.1) }
+    ensures disk_fault { MayBeServed script.now.value.requests (D.history disk.now.value) → AnyFaultCounted (result.0 ≡ outcome.DiskFault) (D.faults disk.now.value) (D.faults result.1) }
+    ensures disk_quiet { MayBeServed script.now.value.requests (D.history disk.now.value) → (IsOneOf (5 ∷ 6 ∷ 8 ∷ []) (status_of result.0) → ⊥) → NoFault (D.faults disk.now.value) (D.faults result.1) }
     ensures write_fault { result.0 ≡ outcome.WriteFault → Rose (O.faults output.old) (O.faults output.new) }
     ensures write_quiet { result.0 ≢ outcome.WriteFault → O.faults output.new ≡ O.faults output.old }
     ensures counted { O.faults output.old ≤ O.faults output.new }
 {
-    match run_script(alloc, disk, script, prepared) {
+    match served {
         Ok(
-            ScriptRun {
+            ServedScript {
                 replies,
                 journal,
-                disk,
+                store,
             },
         ) => {
             let ended = print_replies(alloc, output, journal.as_slice(), replies.as_slice());
-            (ended, disk)
+            (ended, store.into_disk())
         }
         Err(OpenRefused { error, disk }) => (outcome_of(error), disk),
     }

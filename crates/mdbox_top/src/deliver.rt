@@ -1,6 +1,6 @@
 // A delivery: the message is read, the clock asked, and the delivery done as any request alone is.
 ghost use Rattle.std.specs.Prelude.{◌≡◌, ◌≢◌, ◌≤◌, ◌⊎◌, ◌∷◌, [], IfOk, IfErr, OnOk};
-ghost use Rattle.attach_detach.specs.Prepared.{IsPrepared};
+ghost use Rattle.attach_detach.specs.Prepared.{IsTakenApart};
 ghost use Rattle.disk_model.specs.FaultCounts.{NoFault, AnyFaultCounted};
 ghost use Rattle.mdbox_base.specs.Streams.{Rose};
 ghost use Rattle.mdbox_top.specs.DeliverRun.{IsMessageOf, IsTimeOf, IsReadWhole, unread_outcome, IsUnread, DeliverOutcome, DeliverMoments, DeliverRests};
@@ -10,7 +10,7 @@ ghost use Rattle.request_text.specs.declared.outcome.InputRefusal.{InputRefusal}
 ghost use Rattle.request_text.specs.declared.outcome.Outcome.TheVariants as outcome;
 
 use crate::alone::serve;
-use attach_detach::{Prepared, prepare};
+use attach_detach::{Prepared, take_apart};
 use disk_model::Disk;
 use mdbox_base::{Clock, ClockFault, InputError, Name, Octets, Request, Sink, Source, read_all};
 use request_text::{InputRefusal, Outcome};
@@ -46,25 +46,25 @@ pub fn deliver<D: Disk, I: Source, O: Sink, C: Clock>(
     ensures counted { (I.faults input.old ≤ I.faults input.new) × (O.faults output.old ≤ O.faults output.new) × (C.faults clock.old ≤ C.faults clock.new) }
 {
     match read_message(alloc, input, clock) {
-        Ok((message, prepared, time)) => {
+        Ok((message, given, time)) => {
             let request = Request::Deliver {
                 name,
                 time,
                 message,
             };
-            serve(alloc, request, Some(prepared), disk, output)
+            serve(alloc, request, given, disk, output)
         }
         Err(outcome) => (outcome, disk),
     }
 }
 
-/// The message that the input is, the same with its attachments taken out, and the time when it was received.
+/// The message that the input is, the same with its attachments taken out, unless it has none, and the time when it was received.
 fn read_message<I: Source, C: Clock>(
     alloc: Global,
     input: &mut I,
     clock: &mut C,
-) -> Result<(Octets, Prepared, u64), Outcome>
-    ensures message { IfOk result (λ read. IsMessageOf (I.left input.old) read.0 × IsPrepared read.0 read.1) }
+) -> Result<(Octets, Option<Prepared>, u64), Outcome>
+    ensures message { IfOk result (λ read. IsMessageOf (I.left input.old) read.0 × IsTakenApart read.0 read.1) }
     ensures time { IfOk result (λ read. IsTimeOf (C.time clock.old) read.2) }
     ensures unread { IfErr result (IsUnread (I.left input.old)) }
     ensures cause { IfErr result (λ ended. ended ≡ outcome.ReadFault → Rose (I.faults input.old) (I.faults input.new) ⊎ (Rose (C.faults clock.old) (C.faults clock.new) × IsReadWhole (I.left input.old) (I.left input.new))) }
@@ -78,11 +78,11 @@ fn read_message<I: Source, C: Clock>(
         Ok(message) => message,
         Err(error) => return Err(unread(error)),
     };
-    let Ok(prepared) = prepare(alloc, message.as_slice()) else {
+    let Ok(given) = take_apart(alloc, message.as_slice()) else {
         return Err(Outcome::NoMemory);
     };
     match clock.now() {
-        Ok(time) => Ok((message, prepared, time)),
+        Ok(time) => Ok((message, given, time)),
         Err(ClockFault) => Err(Outcome::ReadFault),
     }
 }

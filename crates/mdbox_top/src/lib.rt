@@ -22,3 +22,4 @@ mod rebuild;
 mod run;
 mod sessions;
 mod show;
+mod together;

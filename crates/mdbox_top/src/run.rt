@@ -12,10 +12,10 @@ ghost use Rattle.mdbox_top.specs.DeliverRun.{IsReadWhole};
 ghost use Rattle.mdbox_top.specs.Run.{Ends, Notes, RunOutcome, Moments, Rests, HasStatus, MayHaveFailed, TellsFaults, reads_before, reads_input, uses_disk, asks_clock};
 
 use crate::alone::serve;
-use crate::batch::batch;
+use crate::batch::{batch, batch_in_threads};
 use crate::boxes::boxes;
 use crate::deliver::deliver;
-use crate::exercise::exercise;
+use crate::exercise::{exercise, exercise_in_threads};
 use crate::init::init;
 use crate::input_commands::{dump, logdump};
 use crate::rebuild::rebuild;
@@ -23,14 +23,24 @@ use crate::sessions::serve_input;
 use crate::show::show;
 use disk_model::Disk;
 use mdbox_base::{Clock, Request, Sink, Source};
-use mdbox_threads::{InThreads, Preparer};
+use mdbox_threads::{InTurn, Pause, Preparer};
 use request_text::{Command, HELP, Outcome, Status, VERSION, WordsError, read_words, report};
 use std::alloc::Global;
+use std::sync::Wait;
 use std::thread::Threads;
 
 /// Does what the words ask, and hands the disk back. `dump` and `logdump` read standard input to its end. The messages of a script are
-/// prepared in threads of this runtime, if they are many.
-pub fn mdbox_run<R: Threads + Sync, D: Disk, I: Source, O: Sink, E: Sink, C: Clock>(
+/// prepared in threads of this runtime, if they are many, and its lanes are served by threads, if there are more than one. Such a thread
+/// calls `pause` between its turns.
+pub fn mdbox_run<
+    R: Threads + Wait + Sync,
+    D: Disk + Send,
+    I: Source,
+    O: Sink,
+    E: Sink,
+    C: Clock,
+    P: Pause + Sync,
+>(
     rt: &R,
     alloc: Global,
     words: &[String],
@@ -39,6 +49,7 @@ pub fn mdbox_run<R: Threads + Sync, D: Disk, I: Source, O: Sink, E: Sink, C: Clo
     output: &mut O,
     errors: &mut E,
     clock: &mut C,
+    pause: &P,
 ) -> (Status, D)
     // What was read and printed, what the disk holds, what lanes did, what was told, and the status.
     ensures run { (command : Command) → Says (map string_bytes words.now) command
@@ -84,18 +95,16 @@ pub fn mdbox_run<R: Threads + Sync, D: Disk, I: Source, O: Sink, E: Sink, C: Clo
     ensures counted { (I.faults input.old ≤ I.faults input.new) × (O.faults output.old ≤ O.faults output.new) × (E.faults errors.old ≤ E.faults errors.new) × (C.faults clock.old ≤ C.faults clock.new) }
 {
     match read_words(alloc, words) {
-        Ok(command) => {
-            let preparer = InThreads { rt };
-            mdbox_alone(
-                &preparer, alloc, command, disk, input, output, errors, clock,
-            )
-        }
+        Ok(command) => run_in_threads(
+            rt, alloc, command, disk, input, output, errors, clock, pause,
+        ),
         Err(WordsError::Usage) => (report(alloc, errors, Outcome::Usage), disk),
         Err(WordsError::NoMemory) => (report(alloc, errors, Outcome::NoMemory), disk),
     }
 }
 
 /// Does one command, and hands the disk back. The messages of a script are prepared as `preparer` does: `InTurn` starts no thread.
+/// Its lanes are served in rounds by the caller's thread.
 pub fn mdbox_alone<P: Preparer, D: Disk, I: Source, O: Sink, E: Sink, C: Clock>(
     preparer: &P,
     alloc: Global,
@@ -129,6 +138,52 @@ pub fn mdbox_alone<P: Preparer, D: Disk, I: Source, O: Sink, E: Sink, C: Clock>(
 {
     let (outcome, disk) = perform(preparer, alloc, command, disk, input, output, errors, clock);
     (report(alloc, errors, outcome), disk)
+}
+
+/// Does one command, and hands the disk back: as `mdbox_alone` does, but that threads serve the lanes of a script.
+fn run_in_threads<
+    R: Threads + Wait + Sync,
+    D: Disk + Send,
+    I: Source,
+    O: Sink,
+    E: Sink,
+    C: Clock,
+    P: Pause + Sync,
+>(
+    rt: &R,
+    alloc: Global,
+    command: Command,
+    disk: D,
+    input: &mut I,
+    output: &mut O,
+    errors: &mut E,
+    clock: &mut C,
+    pause: &P,
+) -> (Status, D)
+    requires range { IsInRange command }
+    ensures run { RunOutcome (Ends D command (I.left input.old) (C.time clock.old) (O.held output.old) (O.held output.new) (D.history disk) (D.history result.1) (D.faults disk) (D.faults result.1)) (Notes command (D.history result.1)) result.0.0 (E.held errors.old) (E.faults errors.old) (E.held errors.new) (E.faults errors.new) }
+    ensures moments { Moments command (I.left input.old) (C.time clock.old) (D.history disk) (D.history result.1) }
+    ensures rests { Rests command (I.left input.old) (C.time clock.old) (MayHaveFailed command result.0.0) (D.faults disk) (D.faults result.1) (D.history disk) (D.history result.1) }
+    ensures status { HasStatus command (I.left input.old) (D.history disk) result.0.0 }
+    ensures unread { reads_input command ≡ false → input.new ≡ input.old }
+    ensures untouched { uses_disk command ≡ false → result.1 ≡ disk }
+    ensures unasked { asks_clock command ≡ false → clock.new ≡ clock.old }
+    ensures uncalled { reads_before command ≡ true → (result.0.0 ≡ 4) ⊎ (result.0.0 ≡ 7) → result.1 ≡ disk }
+    ensures disk_fault { TellsFaults command (I.left input.old) (D.history disk) → AnyFaultCounted (result.0.0 ≡ 6) (D.faults disk) (D.faults result.1) }
+    ensures read_fault { result.0.0 ≡ 7 → Rose (I.faults input.old) (I.faults input.new) ⊎ (Rose (C.faults clock.old) (C.faults clock.new) × IsReadWhole (I.left input.old) (I.left input.new)) }
+    ensures write_fault { result.0.0 ≡ 8 → Rose (O.faults output.old) (O.faults output.new) }
+    ensures disk_quiet { TellsFaults command (I.left input.old) (D.history disk) → (MayHaveFailed command result.0.0 → ⊥) → NoFault (D.faults disk) (D.faults result.1) }
+    ensures read_quiet { result.0.0 ≢ 7 → I.faults input.new ≡ I.faults input.old }
+    ensures clock_quiet { result.0.0 ≢ 7 → C.faults clock.new ≡ C.faults clock.old }
+    ensures asked { (clock.new ≡ clock.old) ⊎ (IsReadWhole (I.left input.old) (I.left input.new) × (I.faults input.new ≡ I.faults input.old)) }
+    ensures refused { result.0.0 ≡ 4 → clock.new ≡ clock.old }
+    ensures write_quiet { result.0.0 ≢ 8 → O.faults output.new ≡ O.faults output.old }
+    ensures counted { (I.faults input.old ≤ I.faults input.new) × (O.faults output.old ≤ O.faults output.new) × (E.faults errors.old ≤ E.faults errors.new) × (C.faults clock.old ≤ C.faults clock.new) }
+{
+    let (ended, disk) = perform_in_threads(
+        rt, alloc, command, disk, input, output, errors, clock, pause,
+    );
+    (report(alloc, errors, ended), disk)
 }
 
 /// Does one command, and says how it ended.
@@ -206,5 +261,58 @@ fn perform<P: Preparer, D: Disk, I: Source, O: Sink, E: Sink, C: Clock>(
         Command::LogDump => (logdump(alloc, input, output), disk),
         Command::Help => (show(output, HELP), disk),
         Command::Version => (show(output, VERSION), disk),
+    }
+}
+
+/// Does one command, and says how it ended: as `perform` does, but that threads serve the lanes of a script.
+fn perform_in_threads<
+    R: Threads + Wait + Sync,
+    D: Disk + Send,
+    I: Source,
+    O: Sink,
+    E: Sink,
+    C: Clock,
+    P: Pause + Sync,
+>(
+    rt: &R,
+    alloc: Global,
+    command: Command,
+    disk: D,
+    input: &mut I,
+    output: &mut O,
+    errors: &mut E,
+    clock: &mut C,
+    pause: &P,
+) -> (Outcome, D)
+    requires range { IsInRange command }
+    ensures ends { Ends D command (I.left input.old) (C.time clock.old) (O.held output.old) (O.held output.new) (D.history disk) (D.history result.1) (D.faults disk) (D.faults result.1) result.0 }
+    ensures noted { Notes command (D.history result.1) result.0 (E.held errors.old) (E.faults errors.old) (E.held errors.new) (E.faults errors.new) }
+    ensures moments { Moments command (I.left input.old) (C.time clock.old) (D.history disk) (D.history result.1) }
+    ensures unread { reads_input command ≡ false → input.new ≡ input.old }
+    ensures untouched { uses_disk command ≡ false → result.1 ≡ disk }
+    ensures unasked { asks_clock command ≡ false → clock.new ≡ clock.old }
+    ensures uncalled { reads_before command ≡ true → (result.0 ≡ outcome.ReadFault) ⊎ ((why : InputRefusal) × (result.0 ≡ outcome.InputRefused why)) → result.1 ≡ disk }
+    ensures rests { Rests command (I.left input.old) (C.time clock.old) (MayHaveFailed command (status_of result.0)) (D.faults disk) (D.faults result.1) (D.history disk) (D.history result.1) }
+    ensures disk_fault { TellsFaults command (I.left input.old) (D.history disk) → AnyFaultCounted (result.0 ≡ outcome.DiskFault) (D.faults disk) (D.faults result.1) }
+    ensures read_fault { result.0 ≡ outcome.ReadFault → Rose (I.faults input.old) (I.faults input.new) ⊎ (Rose (C.faults clock.old) (C.faults clock.new) × IsReadWhole (I.left input.old) (I.left input.new)) }
+    ensures write_fault { result.0 ≡ outcome.WriteFault → Rose (O.faults output.old) (O.faults output.new) }
+    ensures disk_quiet { TellsFaults command (I.left input.old) (D.history disk) → (MayHaveFailed command (status_of result.0) → ⊥) → NoFault (D.faults disk) (D.faults result.1) }
+    ensures read_quiet { result.0 ≢ outcome.ReadFault → I.faults input.new ≡ I.faults input.old }
+    ensures clock_quiet { result.0 ≢ outcome.ReadFault → C.faults clock.new ≡ C.faults clock.old }
+    ensures asked { (clock.new ≡ clock.old) ⊎ (IsReadWhole (I.left input.old) (I.left input.new) × (I.faults input.new ≡ I.faults input.old)) }
+    ensures refused { (why : InputRefusal) → result.0 ≡ outcome.InputRefused why → clock.new ≡ clock.old }
+    ensures write_quiet { result.0 ≢ outcome.WriteFault → O.faults output.new ≡ O.faults output.old }
+    ensures counted { (I.faults input.old ≤ I.faults input.new) × (O.faults output.old ≤ O.faults output.new) × (E.faults errors.old ≤ E.faults errors.new) × (C.faults clock.old ≤ C.faults clock.new) }
+{
+    match command {
+        Command::Batch { lanes } => {
+            batch_in_threads(rt, alloc, lanes, disk, input, output, pause)
+        }
+        Command::Exercise {
+            lanes,
+            count,
+            number,
+        } => exercise_in_threads(rt, alloc, lanes, count, number, disk, output, pause),
+        command => perform(&InTurn, alloc, command, disk, input, output, errors, clock),
     }
 }

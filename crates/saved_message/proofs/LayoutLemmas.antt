@@ -59,17 +59,16 @@ lines_written name time p ids guid =
 
 -- ---- the region
 
-pub laid_out : (name : List ℕ) (time : ℕ) (message : List ℕ) (p : Prepared) (text old out : List ℕ) (before at refs_at : ℕ) (sizes : List ℕ) → MadeIsSaid → CanBeWritten name time message p → old ≡ [] → text ≡ metadata_text (written_metadata name time p (unknown_ids p.parts) unknown_guid)
+pub laid_out : (name : List ℕ) (time : ℕ) (message : List ℕ) (p : Prepared) (text out : List ℕ) (before at refs_at : ℕ) (sizes : List ℕ) → MadeIsSaid → CanBeWritten name time message p → text ≡ metadata_text (written_metadata name time p (unknown_ids p.parts) unknown_guid)
     → before ≡ length (numbers_text time p) → at ≡ 34 + length p.body + before + 1 → refs_at ≡ at + 32 + 3 + length name → sizes ≡ map (λ d. length (reference_text (reference_to d unknown_id))) p.parts
-    → ((rows : List Line) → AreLines text rows → out ≡ old ++ written_message (record { body = p.body; lines = rows }))
+    → ((rows : List Line) → AreLines text rows → out ≡ written_message (record { body = p.body; lines = rows }))
     → IsLaid name time p (unknown_ids p.parts) unknown_guid (record { region = out; guid_at = at; refs_at = refs_at; sizes = sizes })
-laid_out name time message p text old out before at refs_at sizes law can empty text_is before_is at_is refs_is sizes_are pushed =
+laid_out name time message p text out before at refs_at sizes law can text_is before_is at_is refs_is sizes_are pushed =
     let m : Metadata = written_metadata name time p (unknown_ids p.parts) unknown_guid in
     let said : IsMetadataText (metadata_text m) m = law m (can_be_made name time message p (unknown_ids p.parts) unknown_guid can (unknown_are_ids p.parts) zeros_are_sixteen) in
     record {
       region = pushed said.lines (subst (λ (t : List ℕ). AreLines t said.lines) (sym text_is) said.are)
-          ∙ (ap (λ (o : List ℕ). o ++ written_message (record { body = p.body; lines = said.lines })) empty
-          ∙ written_as p.body said.lines (known_lines m) (sym said.are.spelled ∙ append-nil (flat_map line_text (known_lines m))));
+          ∙ written_as p.body said.lines (known_lines m) (sym said.are.spelled ∙ append-nil (flat_map line_text (known_lines m)));
       one_each = unknown_one_each p.parts;
       ids_fit = unknown_are_ids p.parts;
       guid_fits = zeros_are_sixteen;

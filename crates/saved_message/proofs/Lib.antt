@@ -8,3 +8,4 @@ pub mod PreparedLemmas
 pub mod ReferenceLemmas
 pub mod RegionLemmas
 pub mod StoredLemmas
+pub mod TextsLemmas

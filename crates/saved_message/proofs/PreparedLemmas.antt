@@ -1,17 +1,14 @@
--- A message has one prepared form, and that of a message without detachable parts is the message.
-use Rattle.std.proofs.Common.{refl, ◌≡◌, ℕ, List, [], ◌∷◌, map, All, sym, ◌∙◌, ap, subst}
+-- A message has one prepared form.
+use Rattle.std.proofs.Common.{refl, ◌≡◌, ℕ, List, [], ◌∷◌, map, All, sym, ◌∙◌, ap}
 use Rattle.std.specs.Prelude.{filter}
-use Rattle.std.proofs.lemmas.List.Elements.{All-head, All-nil, All-tail}
+use Rattle.std.proofs.lemmas.List.Elements.{All-head, All-tail}
 use Rattle.sha1.specs.Sha1.{sha1}
 use Rattle.model_attach.proofs.DetachedLemmas.{cut_once}
-use Rattle.model_attach.specs.Detached.{AreCut, Piece}
+use Rattle.model_attach.specs.Detached.{Piece}
 use Rattle.model_mime.specs.Parts.{parts_in}
-use Rattle.model_mime.specs.declared.mime.Part.{Part}
-use Rattle.attach_detach.specs.Prepared.{HasHash, IsPlain, IsPrepared, piece_of}
+use Rattle.attach_detach.specs.Prepared.{HasHash, IsPrepared, piece_of}
 use Rattle.attach_detach.specs.declared.message.Detached.{Detached}
 use Rattle.attach_detach.specs.declared.message.Prepared.{Prepared}
-
--- ---- one form
 
 abbrev head_of : Detached → List Piece → Piece
 head_of d [] = piece_of d
@@ -43,13 +40,3 @@ pub prepared_same : (message : List ℕ) (p q : Prepared) → IsPrepared message
 prepared_same message p q a b =
     let once = cut_once message 0 (filter (λ part. part.detachable) (parts_in message)) (map piece_of p.parts) (map piece_of q.parts) p.body q.body a.detached b.detached in
     form_same p q once.1 (parts_same p.parts q.parts once.0 a.hashes b.hashes) (a.whole ∙ sym b.whole) (a.virtual ∙ sym b.virtual)
-
--- ---- the message itself
-
-pub plain_prepared : (message : List ℕ) (p : Prepared) → IsPlain message p → filter (λ part. part.detachable) (parts_in message) ≡ [] → IsPrepared message p
-plain_prepared message p plain none = record {
-  detached = subst (λ (parts : List Part). AreCut message 0 parts (map piece_of p.parts) p.body) (sym none) (subst (λ (parts : List Detached). AreCut message 0 [] (map piece_of parts) p.body) (sym plain.parts) plain.body);
-  hashes = subst (λ (parts : List Detached). All HasHash parts) (sym plain.parts) (All-nil HasHash);
-  whole = plain.whole;
-  virtual = plain.virtual;
-}

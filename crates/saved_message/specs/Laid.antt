@@ -16,6 +16,10 @@ pub record LaidValue : Type 0 where
   pub refs_at : ℕ
   pub sizes : List ℕ
 
+-- the region whose last text is this, and what stands before it; the places are told from that text on
+abbrev pub laid_of : List ℕ → List ℕ → ℕ → ℕ → List ℕ → LaidValue
+laid_of before back guid_at refs_at sizes = record { region = before ++ back; guid_at = length before + guid_at; refs_at = length before + refs_at; sizes = sizes }
+
 -- sixteen octets, as a GUID and an id have
 pub record AreSixteen (octets : List ℕ) : Type 0 where
   pub long : length octets ≡ 16

@@ -1,14 +1,13 @@
 // Laws of what is written.
-ghost use Rattle.std.specs.Prelude.{◌≡◌, ◌≤◌, [], ℕ, List, All, length, filter, Some};
+ghost use Rattle.std.specs.Prelude.{◌≡◌, ◌≤◌, ℕ, List, All, length, Some};
 ghost use Rattle.sha1.specs.Sha1.{sha1};
 ghost use Rattle.disk_model.specs.Disk.{Files};
 ghost use Rattle.disk_model.specs.declared.name.FileName.TheVariants as file;
 ghost use Rattle.mdbox_base.specs.declared.ids.InstId.{InstId};
 ghost use Rattle.model_attach.specs.Detached.{AreDetached};
-ghost use Rattle.model_mime.specs.Parts.{parts_in};
 ghost use Rattle.model_meaning.specs.MapMeaning.{MapRecord};
 ghost use Rattle.model_store.specs.Stands.{StoresMessage};
-ghost use Rattle.attach_detach.specs.Prepared.{IsPlain, IsPrepared};
+ghost use Rattle.attach_detach.specs.Prepared.{IsPrepared};
 ghost use Rattle.attach_detach.specs.declared.message.Prepared.{Prepared};
 ghost use Rattle.saved_message.specs.Laid.{IsLaid, LaidValue};
 ghost use Rattle.saved_message.specs.Saved.{CanBeWritten, HasWritten};
@@ -34,11 +33,6 @@ pub fn written_attachments_have_hashes()
 /// A message has one prepared form.
 pub fn prepared_form_is_one()
     ensures { (message : List ℕ) (one other : Prepared) → IsPrepared message one → IsPrepared message other → one ≡ other }
-{}
-
-/// A message of which no part can be detached is prepared as it is.
-pub fn plain_messages_are_prepared()
-    ensures { (message : List ℕ) (prepared : Prepared) → IsPlain message prepared → filter (λ part. part.detachable) (parts_in message) ≡ [] → IsPrepared message prepared }
 {}
 
 /// At most 512 attachments are detached from a message, since each has at least 131,072 octets.

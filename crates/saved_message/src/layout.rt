@@ -11,27 +11,38 @@ ghost use Rattle.saved_message.specs.Layout.{FitsLayout, metadata_of_numbers, me
 ghost use Rattle.saved_message.specs.Region.{reference_to, references_naming, unknown_guid, unknown_id, unknown_ids, written_metadata};
 
 use crate::laid::Laid;
+use crate::texts::texts_of;
 use attach_detach::{Detached, Prepared};
-use dbox_file::push_message;
 use dbox_metadata::{made_metadata_is_said, push_metadata, push_refs};
 use mdbox_base::{ExtRef, Guid, InstId, Name, NoMemory, Octets, Seq, name_of};
 use model_storage::Metadata;
 use std::alloc::Global;
 
 /// Lays out the region of a message, received at this time (Unix seconds), before its GUID and the ids of its attachments'
-/// instances are known: their digits are zeros. The body is copied once.
-pub fn lay_out(alloc: Global, name: &Name, time: u64, prepared: &Prepared) -> Result<Laid, NoMemory>
-    requires { (message : List ℕ) × (length message ≤ 67108864) × IsPrepared message prepared.now }
-    ensures { IfOk result (λ laid. IsLaid name.now time prepared.now (unknown_ids prepared.now.parts) unknown_guid laid) }
+/// instances are known: their digits are zeros. Its attachments are given back.
+pub fn lay_out(
+    alloc: Global,
+    name: &Name,
+    time: u64,
+    prepared: Prepared,
+) -> Result<(Laid, Seq<Detached>), NoMemory>
+    requires { (message : List ℕ) × (length message ≤ 67108864) × IsPrepared message prepared }
+    ensures laid { IfOk result (λ made. IsLaid name.now time prepared (unknown_ids prepared.parts) unknown_guid made.0) }
+    ensures parts { IfOk result (λ made. made.1 ≡ prepared.parts) }
 {
     made_metadata_is_said();
     let name_size = name.as_octets().len();
-    let (lines, before) = push_lines(alloc, name, time, prepared)?;
+    let (lines, before) = push_lines(alloc, name, time, &prepared)?;
     let sizes = sizes_of(alloc, prepared.parts.as_slice())?;
-    let body = prepared.body.as_slice();
-    let mut region = Octets::empty(alloc);
-    push_message(alloc, &mut region, body, lines.as_slice())?;
-    Ok(Laid::of(region.into_vec(), body.len(), before, name_size, sizes))
+    let Prepared {
+        body,
+        parts,
+        whole: _whole,
+        virtual_size: _virtual_size,
+    } = prepared;
+    let body_size = body.length();
+    let texts = texts_of(alloc, body, lines.as_slice())?;
+    Ok((Laid::of(texts, body_size, before, name_size, sizes), parts))
 }
 
 /// The metadata lines of a message, and how many octets those before the GUID's have.

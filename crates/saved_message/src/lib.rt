@@ -3,7 +3,7 @@
 
 pub use laid::Laid;
 pub use laws::{
-    attachments_are_few, laid_regions_are_short, plain_messages_are_prepared, prepared_form_is_one,
+    attachments_are_few, laid_regions_are_short, prepared_form_is_one,
     written_attachments_have_hashes, written_messages_are_detached, written_messages_are_stored,
 };
 pub use layout::lay_out;
@@ -14,3 +14,4 @@ mod laid;
 mod laws;
 mod layout;
 mod place;
+mod texts;

@@ -23,7 +23,8 @@ use Rattle.lane_tasks.specs.declared.task.Task.{Task}
 use Rattle.lane_tasks.specs.declared.task.Task.TheVariants as task
 use Rattle.lane_tasks.proofs.StepLemmas.{ran_before}
 use Rattle.lanes.specs.Rows.{LaneRow, after_event, next_in_turn}
-use Rattle.lanes.specs.Worlds.{GoesInRounds, IsLaneEvent, WorldValue, queued_in}
+use Rattle.lanes.specs.Turned.{GoesOnInOrder}
+use Rattle.lanes.specs.Worlds.{IsLaneEvent, WorldValue, queued_in}
 use Rattle.lanes.specs.declared.lane.Queued.{Queued}
 
 -- ---- a fact that each event keeps
@@ -33,11 +34,11 @@ abbrev pub StaysOver : {D : Type 0} → (WorldValue D → Option History → Fau
 StaysOver Fact = (lane : ℕ) (old mid : WorldValue _) (before between : Option History) (first counted : Faults) → IsLaneEvent lane old mid before between first counted → Fact old before first → Fact mid between counted
 
 -- So it stays over all of them.
-pub stays_over : {D : Type 0} → (Fact : WorldValue D → Option History → Faults → Type 0) → StaysOver Fact → (last : ℕ) (lanes : List ℕ) (old new : WorldValue D) (before after : Option History) (first second : Faults) → GoesInRounds last lanes old new before after first second → Fact old before first → Fact new after second
-stays_over {D} Fact keep last [] old new before after first second g is =
+pub stays_over : {D : Type 0} → (Fact : WorldValue D → Option History → Faults → Type 0) → StaysOver Fact → (lanes : List ℕ) (old new : WorldValue D) (before after : Option History) (first second : Faults) → GoesOnInOrder lanes old new before after first second → Fact old before first → Fact new after second
+stays_over {D} Fact keep [] old new before after first second g is =
     subst (λ (w : WorldValue D). Fact w after second) (sym g.0) (subst (λ (h : Option History). Fact old h second) (sym g.1) (subst (λ (f : Faults). Fact old before f) (sym g.2) is))
-stays_over {D} Fact keep last (lane ∷ lanes) old new before after first second g is =
-    stays_over Fact keep lane lanes g.0 new g.1 after g.2 second g.6 (keep lane old g.0 before g.1 first g.2 g.4 is)
+stays_over {D} Fact keep (lane ∷ lanes) old new before after first second g is =
+    stays_over Fact keep lanes g.0 new g.1 after g.2 second g.5 (keep lane old g.0 before g.1 first g.2 g.3 is)
 
 -- ---- the tasks of all requests
 

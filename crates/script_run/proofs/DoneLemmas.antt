@@ -3,7 +3,7 @@ use Rattle.std.specs.Prelude.{◌≡◌, ◌≢◌, ◌<◌, ◌≤◌, ◌||◌
 use Rattle.std.proofs.Common.{refl, sym, ◌∙◌, ap, subst, arith, inl, inr}
 use Rattle.std.proofs.lemmas.List.{length-map, length-replicate}
 use Rattle.std.proofs.lemmas.Option.{slice_get_within}
-use Rattle.disk_model.specs.Disk.{Faults, History, IsIdle, IsMoment, told_calls}
+use Rattle.disk_model.specs.Disk.{Faults, History, IfTold, IsIdle, IsMoment, told_calls}
 use Rattle.disk_model.proofs.IdleLemmas.{idle-begins}
 use Rattle.mdbox_base.specs.declared.ids.Uid.{Uid}
 use Rattle.mdbox_base.specs.declared.replies.Refusal.{Refusal}
@@ -14,6 +14,7 @@ use Rattle.mdbox_base.specs.declared.script.JournalEntry.{JournalEntry}
 use Rattle.mdbox_base.specs.declared.requests.Request.{Request}
 use Rattle.mdbox_base.specs.declared.requests.Request.TheVariants as request
 use Rattle.model_kept.specs.Kept.{MailIsKept}
+use Rattle.model_kept.proofs.KeptLemmas.{ReadsImage}
 use Rattle.model_lists.specs.Lists.{Lists}
 use Rattle.model_store.specs.Settled.{IsSettledFor}
 use Rattle.list_machine.specs.Run.{Run, RunEvent, reply_of}
@@ -35,9 +36,8 @@ use Rattle.task_steps.proofs.OneEventLemmas.{not_true}
 use Rattle.mail_fetch.specs.Task.{seen_in}
 use Rattle.lanes.specs.Going.{AreFreshRows, FindsMessages, IsGoing}
 use Rattle.lanes.specs.Rows.{LaneRow, lane_value, lanes_of}
-use Rattle.attach_detach.specs.declared.message.Prepared.{Prepared}
-use Rattle.lanes.specs.Worlds.{AreGiven, AreOfLanes, ArePartsOf, GoesOnBy, IsFreshWorld, IsWorldOf, KeepsWorld, PartsValue, WorldValue, and_events}
-use Rattle.lanes.proofs.TraceLemmas.{as_finished, world_finished}
+use Rattle.lanes.specs.Turned.{GoesOnInOrder, WentOn, untraced}
+use Rattle.lanes.specs.Worlds.{AreOfLanes, ArePartsOf, IsFreshWorld, IsWorldOf, KeepsWorld, PartsValue, WorldValue, and_events}
 use Rattle.lane_tasks.specs.Clause.{AnswersReads, DoomsNone, OnlyReads, ReadsNoOctets}
 use Rattle.task_steps.proofs.UnmovedLemmas.{mail_still}
 use Rattle.lane_tasks.specs.Tasks.{BeginsTask}
@@ -50,6 +50,7 @@ use Rattle.script_run.specs.Done.{IsScriptDone, LeavesStore, MayBeKept, MayBeSer
 use Rattle.script_run.specs.Faults.{FaultsByReplies, HasReadFault}
 use Rattle.script_run.specs.LeftOpen.{IsServedOpen}
 use Rattle.script_run.specs.Opening.{AreSafeFor, LogsShowLists}
+use Rattle.script_run.specs.OpenScript.{IsScriptOpened, IsStoreOpened}
 use Rattle.script_run.specs.Script.{HasStopped, IsRefusedAtOnce, ServesScript, has_change, has_delivery, has_fetch, has_mail_read, has_purge, is_fetch, is_purge}
 use Rattle.script_run.proofs.EndLemmas.{all_given, script_served, serves_from, unharmed}
 use Rattle.script_run.proofs.MailStaysLemmas.{opening_keeps, run_keeps, stays_from}
@@ -68,14 +69,14 @@ use Rattle.script_run.proofs.OpenedLemmas.{none_doomed, none_holds, none_used}
 use Rattle.script_run.proofs.ReadFaultLemmas.{TellsFault, faults_are_told}
 use Rattle.script_run.proofs.PurgeTaskLemmas.{IsPurgeTold, StandsPurge, begun_purge, keeps_purge}
 use Rattle.script_run.proofs.ResyncTaskLemmas.{IsResyncTold, StandsResync, begun_resync, keeps_resync}
-use Rattle.script_run.proofs.RunBeginsLemmas.{OpenedNow, at_opening, before_opening, beginning, first_come, opening_begins}
+use Rattle.script_run.proofs.RunBeginsLemmas.{at_opening, before_opening, beginning, first_come, opening_begins}
 use Rattle.script_run.proofs.SealedLemmas.{HasKeptSealed, keeps_sealed, sealed_first, sealed_on}
 use Rattle.script_run.proofs.ShownLemmas.{LogsShow, carried_safe, opened_logs_show, opens_again}
 use Rattle.script_run.proofs.SomeListsLemmas.{some_lists}
 
 -- ---- a world begins
 
-pub no_task : {D : Type 0} → (old mid : Option History) (s : StoreValue D) → OpenedNow old mid s → AreInstances s.instances → s.made ≡ [] → HasNoTask s
+pub no_task : {D : Type 0} → (old mid : Option History) (s : StoreValue D) → IsStoreOpened old mid s → AreInstances s.instances → s.made ≡ [] → HasNoTask s
 no_task old mid s o are made = record { dues = o.free; files = none_used s old o.files; instances = none_holds s are o.instances; made = made }
 
 -- ---- it reads messages only from settled disks
@@ -105,7 +106,7 @@ WorldsBegin D = (start : Lists) (script : Requests) (run : Run) (began : Seen) (
     → IsGoing start script run [] no_broken (unreplied script) began store history faults parts.rows → IsWorldOf start script run [] no_broken began history faults world
 
 -- a world of the script begins, with the disk as it was before the opening
-pub begins_from : {D : Type 0} → (start : Lists) (script : Requests) (lanes : ℕ) (parts : PartsValue) (old mid : Option History) (first : Faults) (s : StoreValue D) (o : OpenedNow old mid s) (world : WorldValue D) → WorldsBegin D
+pub begins_from : {D : Type 0} → (start : Lists) (script : Requests) (lanes : ℕ) (parts : PartsValue) (old mid : Option History) (first : Faults) (s : StoreValue D) (o : IsStoreOpened old mid s) (world : WorldValue D) → WorldsBegin D
     → IsGoing start script (beginning s.map o.store.entries) [] no_broken (unreplied script) (seen_in s mid first) s mid first parts.rows → ArePartsOf script lanes parts → LogsShowLists s.map (indexes_of s.boxes) start → MayRead script start old → IsFreshWorld s parts mid world
     → IsWorldOf start script (beginning s.map o.store.entries) [] no_broken (before_opening (seen_in s mid first) old) mid first world
 begins_from start script lanes parts old mid first s o world law g are shows may begun =
@@ -155,7 +156,7 @@ LanesEnd D = (start : Lists) (script : Requests) (run : Run) (journal : List Jou
     → AreIdle (lanes_of rows) → (i : ℕ) → i < length script → (given : Reply) × HasReply replies i given × (reply_of i run ≡ Some given)
 
 -- Some lists are shown from which the script may be served, if there are lists from which it may read.
-start_of : {D : Type 0} → (script : Requests) (old mid : Option History) (s : StoreValue D) → OpenedNow old mid s → LogsShow → MayBeServed script old → (start : Lists) × LogsShowLists s.map (indexes_of s.boxes) start × MayRead script start old
+start_of : {D : Type 0} → (script : Requests) (old mid : Option History) (s : StoreValue D) → IsStoreOpened old mid s → LogsShow → MayBeServed script old → (start : Lists) × LogsShowLists s.map (indexes_of s.boxes) start × MayRead script start old
 start_of script old mid s o show some = by_test (has_fetch script) refl
   where
     by_test : (b : Bool) → has_fetch script ≡ b → (start : Lists) × LogsShowLists s.map (indexes_of s.boxes) start × MayRead script start old
@@ -186,7 +187,8 @@ pub record RunSince {D : Type 0} (start : Lists) (script : Requests) (run : Run)
 
 -- What is known of a run at its end, however its requests came: the opening, and what was made of the world that began then.
 pub record RunLeft {D : Type 0} (script : Requests) (old mid new : Option History) (first last : Faults) (s : StoreValue D) (ended : WorldValue D) : Type 0 where
-  pub opened : OpenedNow old mid s
+  pub opened : IsStoreOpened old mid s
+  pub reads : IfTold mid ReadsImage
   pub show : LogsShow
   pub since : (start : Lists) → LogsShowLists s.map (indexes_of s.boxes) start → MayRead script start old → RunSince start script (beginning s.map opened.store.entries) (before_opening (seen_in s mid first) old) ended mid new last
   pub counts : HasCounted mid first ended new last
@@ -274,13 +276,13 @@ stays_run script old mid new first last s ended r may = by_test (has_delivery sc
         run_keeps old new s.map (indexes_of s.boxes) r.opened.opened (mail_of_run script old mid new first last s ended r start.0 start.1 start.2 may.0)
     by_test false e =
         let kept = (r.unwritten e may.0).kept s.map in
-        stays_from old mid new s.map (indexes_of s.boxes) r.opened.opened r.opened.reads r.opened.stays kept
+        stays_from old mid new s.map (indexes_of s.boxes) r.opened.opened r.reads r.opened.stays kept
 
 -- and sealed storage files stay, also where a script purges
 sealed_run : {D : Type 0} → (script : Requests) (old mid new : Option History) (first last : Faults) (s : StoreValue D) (ended : WorldValue D) → RunLeft script old mid new first last s ended → MayBeServed script old → KeepsSealed old new
 sealed_run script old mid new first last s ended r may =
     let start = start_of script old mid s r.opened r.show may in
-    keeps_sealed old mid new s.map (indexes_of s.boxes) r.opened.opened r.opened.reads r.opened.stays (r.sealed start.0 start.1 start.2).kept
+    keeps_sealed old mid new s.map (indexes_of s.boxes) r.opened.opened r.reads r.opened.stays (r.sealed start.0 start.1 start.2).kept
 
 pub done_run : {D : Type 0} → (script : Requests) (old mid new : Option History) (first last : Faults) (s : StoreValue D) (ended : WorldValue D) → RunLeft script old mid new first last s ended → (given : List Reply) → ended.replies ≡ map Some given → IsScriptDone script given ended.journal old new first last
 unfolding leaves_run serves_run script_served
@@ -320,16 +322,17 @@ LanesBegin D = (start : Lists) (script : Requests) (run : Run) (rows : List Lane
 
 -- What is known of a script's run: the opening, the world that began then, and what it came to.
 pub record ScriptRan {D : Type 0} (script : Requests) (old mid new : Option History) (first last : Faults) (s : StoreValue D) (world ended : WorldValue D) : Type 0 where
-  pub opened : OpenedNow old mid s
+  pub opened : IsStoreOpened old mid s
+  pub reads : IfTold mid ReadsImage
   pub unused : HasNoTask s
   pub show : LogsShow
   pub fresh : AreFreshRows script world.rows
   pub store_is : world.store ≡ s
   pub runs : world.store.stopped ≡ false
   pub made_is : IsMoment mid world.began
-  pub begins : (start : Lists) → LogsShowLists s.map (indexes_of s.boxes) start → MayRead script start old → IsWorldOf start script (beginning s.map opened.store.entries) [] no_broken (before_opening (seen_in s mid first) old) mid first world
+  pub begins : (start : Lists) → LogsShowLists s.map (indexes_of s.boxes) start → MayRead script start old → IsWorldOf start script (beginning s.map opened.store.entries) [] no_broken (before_opening (seen_in s mid first) old) mid first (untraced world)
   pub turns : List ℕ
-  pub chain : GoesOnBy turns world ended mid new first last
+  pub chain : GoesOnInOrder turns (untraced world) ended mid new first last
   pub same_began : ended.began ≡ world.began
   pub many : length ended.replies ≡ length script
   pub replied : (i : ℕ) → i < length ended.replies → (given : Reply) × HasReply ended.replies i given
@@ -339,18 +342,18 @@ pub record ScriptRan {D : Type 0} (script : Requests) (old mid new : Option Hist
 
 -- the world of the run with all events
 ended_world : {D : Type 0} → (script : Requests) (old mid new : Option History) (first last : Faults) (s : StoreValue D) (world ended : WorldValue D) → (r : ScriptRan script old mid new first last s world ended) → (start : Lists) → LogsShowLists s.map (indexes_of s.boxes) start → MayRead script start old
-    → ServedSince start script (beginning s.map r.opened.store.entries) [] (before_opening (seen_in s mid first) old) (as_finished world) ended mid new last
+    → ServedSince start script (beginning s.map r.opened.store.entries) [] (before_opening (seen_in s mid first) old) (untraced world) ended mid new last
 ended_world script old mid new first last s world ended r start shows may =
     let run : Run = beginning s.map r.opened.store.entries in
     let from : Seen = before_opening (seen_in s mid first) old in
-    served_since 0 r.turns (as_finished world) ended mid new first last r.chain start script run [] no_broken from (world_finished start script run [] no_broken from mid first world (r.begins start shows may))
+    served_since r.turns (untraced world) ended mid new first last r.chain start script run [] no_broken from (r.begins start shows may)
 
 -- what came of the counts of faults
 counts_of_run : {D : Type 0} → (script : Requests) (old mid new : Option History) (first last : Faults) (s : StoreValue D) (world ended : WorldValue D) → ScriptRan script old mid new first last s world ended → HasCounted mid first ended new last
-counts_of_run script old mid new first last s world ended r = stays_over (HasCounted mid first) (counted_on mid first) 0 r.turns (as_finished world) ended mid new first last r.chain (counted_first (as_finished world) mid first r.runs)
+counts_of_run script old mid new first last s world ended r = stays_over (HasCounted mid first) (counted_on mid first) r.turns (untraced world) ended mid new first last r.chain (counted_first (untraced world) mid first r.runs)
 
 -- In the store that was opened no file is doomed, and no task of a script without a purge is to remove one.
-undoomed_first : {D : Type 0} → (script : Requests) (old mid new : Option History) (first last : Faults) (s : StoreValue D) (world ended : WorldValue D) → ScriptRan script old mid new first last s world ended → ((place lane : ℕ) (asked : Request) → slice_get script place ≡ Some (lane, asked) → is_purge asked ≡ false) → HasDoomedNone (as_finished world)
+undoomed_first : {D : Type 0} → (script : Requests) (old mid new : Option History) (first last : Faults) (s : StoreValue D) (world ended : WorldValue D) → ScriptRan script old mid new first last s world ended → ((place lane : ℕ) (asked : Request) → slice_get script place ≡ Some (lane, asked) → is_purge asked ≡ false) → HasDoomedNone (untraced world)
 undoomed_first script old mid new first last s world ended r none = record {
   tasks = fresh_tasks DoomsNone script world.rows (λ place lane asked t at begins. dooms_first asked t (none place lane asked at) begins) r.fresh;
   files = λ runs file. ap (λ (v : StoreValue _). is_doomed_in file v.files.files) r.store_is ∙ none_doomed s old r.opened.files file;
@@ -359,7 +362,7 @@ undoomed_first script old mid new first last s world ended r none = record {
 -- A script with neither a delivery nor a purge leaves them as the opening left them.
 unwritten_run : {D : Type 0} → (script : Requests) (old mid new : Option History) (first last : Faults) (s : StoreValue D) (world ended : WorldValue D) → ScriptRan script old mid new first last s world ended → has_delivery script ≡ false → has_purge script ≡ false → HasWrittenNone mid ended new last
 unwritten_run script old mid new first last s world ended r none none_purges =
-    stays_over (HasWrittenNone mid) (unwritten_on mid) 0 r.turns (as_finished world) ended mid new first last r.chain
+    stays_over (HasWrittenNone mid) (unwritten_on mid) r.turns (untraced world) ended mid new first last r.chain
     (record {
       tasks = fresh_tasks WritesNoMail script world.rows (λ place lane asked t at begins. unwritten_first script place lane asked t none none_purges at begins) r.fresh;
       undoomed = undoomed_first script old mid new first last s world ended r (λ place lane asked at. unpurged script place lane asked none_purges at);
@@ -370,7 +373,7 @@ unwritten_run script old mid new first last s world ended r none none_purges =
 -- One that reads at the most changes nothing, and doesn't stop the store.
 idle_run : {D : Type 0} → (script : Requests) (old mid new : Option History) (first last : Faults) (s : StoreValue D) (world ended : WorldValue D) → ScriptRan script old mid new first last s world ended → has_change script ≡ false → HasOnlyRead mid ended new last
 idle_run script old mid new first last s world ended r none =
-    stays_over (HasOnlyRead mid) (reads_on mid) 0 r.turns (as_finished world) ended mid new first last r.chain
+    stays_over (HasOnlyRead mid) (reads_on mid) r.turns (untraced world) ended mid new first last r.chain
     (record {
       tasks = fresh_tasks OnlyReads script world.rows (λ place lane asked t at begins. reads_first script place lane asked t none at begins) r.fresh;
       undoomed = undoomed_first script old mid new first last s world ended r (λ place lane asked at. reads_unpurged asked (changes_none script place lane asked none at));
@@ -381,13 +384,13 @@ idle_run script old mid new first last s world ended r none =
 -- One that reads no octets counts no failed read.
 unread_run : {D : Type 0} → (script : Requests) (old mid new : Option History) (first last : Faults) (s : StoreValue D) (world ended : WorldValue D) → ScriptRan script old mid new first last s world ended → has_mail_read script ≡ false → HasReadNoOctets first ended new last
 unread_run script old mid new first last s world ended r none =
-    stays_over (HasReadNoOctets first) (unread_on first) 0 r.turns (as_finished world) ended mid new first last r.chain
+    stays_over (HasReadNoOctets first) (unread_on first) r.turns (untraced world) ended mid new first last r.chain
     (record { tasks = fresh_tasks ReadsNoOctets script world.rows (λ place lane asked t at begins. unread_first script place lane asked t none at begins) r.fresh; unread = refl })
 
 -- One that fetches no message counts a failed read only if a reply says so.
 calm_run : {D : Type 0} → (script : Requests) (old mid new : Option History) (first last : Faults) (s : StoreValue D) (world ended : WorldValue D) → ScriptRan script old mid new first last s world ended → has_fetch script ≡ false → HasReadAsTold first ended new last
 calm_run script old mid new first last s world ended r none =
-    stays_over (HasReadAsTold first) (calm_on first) 0 r.turns (as_finished world) ended mid new first last r.chain
+    stays_over (HasReadAsTold first) (calm_on first) r.turns (untraced world) ended mid new first last r.chain
     (record { tasks = fresh_tasks AnswersReads script world.rows (λ place lane asked t at begins. answers_first script place lane asked t none at begins) r.fresh; calm = λ unread. refl })
 
 -- What it sealed is sealed, and stays.
@@ -396,14 +399,15 @@ sealed_since : {D : Type 0} → (script : Requests) (old mid new : Option Histor
 sealed_since script old mid new first last s world ended r start shows may =
     let run : Run = beginning s.map r.opened.store.entries in
     let from : Seen = before_opening (seen_in s mid first) old in
-    let fresh = world_finished start script run [] no_broken from mid first world (r.begins start shows may) in
-    stays_over (HasKeptSealed start script s.map mid) (sealed_on start script s.map mid) 0 r.turns (as_finished world) ended mid new first last r.chain
-    (sealed_first start script run no_broken from s.map mid (as_finished world) first fresh (ap (λ (v : StoreValue _). v.map) r.store_is))
+    let fresh = r.begins start shows may in
+    stays_over (HasKeptSealed start script s.map mid) (sealed_on start script s.map mid) r.turns (untraced world) ended mid new first last r.chain
+    (sealed_first start script run no_broken from s.map mid (untraced world) first fresh (ap (λ (v : StoreValue _). v.map) r.store_is))
 
 -- So much is known of it at its end.
 left_of_run : {D : Type 0} → (script : Requests) (old mid new : Option History) (first last : Faults) (s : StoreValue D) (world ended : WorldValue D) → ScriptRan script old mid new first last s world ended → RunLeft script old mid new first last s ended
 left_of_run script old mid new first last s world ended r = record {
   opened = r.opened;
+  reads = r.reads;
   show = r.show;
   since = λ start shows may.
       let w = ended_world script old mid new first last s world ended r start shows may in
@@ -446,7 +450,7 @@ flag_answer name uid flags s t given running r =
 alone_told : {D : Type 0} → (Stands : Task → StoreValue D → Option History → Type 0) (Told : Reply → StoreValue D → Option History → Type 0) (at : ℕ) (asked : Request) (one : Reply) (old mid new : Option History) (first last : Faults) (s : StoreValue D) (world ended : WorldValue D) → ScriptRan ((at, asked) ∷ []) old mid new first last s world ended → ended.replies ≡ Some one ∷ []
     → has_fetch ((at, asked) ∷ []) ≡ false → KeepsAlone Stands Told → ((t : Task) → BeginsTask asked t → Stands t s mid) → Told one ended.store new
 alone_told {D} Stands Told at asked one old mid new first last s world ended r are unread keeps begun =
-    (stays_over (IsAloneSo (λ t store history faults. Stands t store history) (λ given store history faults. Told given store history) at) (alone_on (λ t store history faults. Stands t store history) (λ given store history faults. Told given store history) at keeps) 0 r.turns (as_finished world) ended mid new first last r.chain
+    (stays_over (IsAloneSo (λ t store history faults. Stands t store history) (λ given store history faults. Told given store history) at) (alone_on (λ t store history faults. Stands t store history) (λ given store history faults. Told given store history) at keeps) r.turns (untraced world) ended mid new first last r.chain
     (record {
       one = began.0;
       rows = alone_fresh (λ t. Stands t world.store mid) at asked world.rows (λ t b. subst (λ (v : StoreValue D). Stands t v mid) (sym r.store_is) (begun t b)) r.fresh;
@@ -581,19 +585,26 @@ script_done script old mid new first last s world ended r =
       },
     )
 
+-- the law of worlds without their turns
+abbrev pub AlsoUntraced : (D : Type 0) → Type 0
+AlsoUntraced D = (start : Lists) (script : Requests) (run : Run) (steps : List JournalStep) (failed : Broken) (began : Seen) (history : Option History) (faults : Faults) (world : WorldValue D) → IsWorldOf start script run steps failed began history faults world → IsWorldOf start script run steps failed began history faults (untraced world)
+
 -- What a script's run says of the opening, of the world and of its end: so it is done.
-pub script_ran : {D : Type 0} → (script : Requests) (lanes : ℕ) (prepared : List (Option Prepared)) (parts : PartsValue) (old mid new : Option History) (first last : Faults) (s : StoreValue D) (world ended : WorldValue D) (turns : List ℕ) → (o : OpenedNow old mid s) → HasNoTask s → LogsShow → AreGiven script prepared → ArePartsOf script lanes parts → IsFreshWorld s parts mid world
+pub script_ran : {D : Type 0} → (script : Requests) (lanes : ℕ) (parts : PartsValue) (old mid new : Option History) (first last : Faults) (s : StoreValue D) (world ended : WorldValue D) (turns : List ℕ) → (o : IsStoreOpened old mid s) → IfTold mid ReadsImage → HasNoTask s → LogsShow → ArePartsOf script lanes parts → IsFreshWorld s parts mid world
     → ((start : Lists) → MayRead script start old → LogsShowLists s.map (indexes_of s.boxes) start → (run : Run) → IsAtOpening run s → HasCome run s.map s.drawn (told_calls mid) → IsGoing start script run [] no_broken (unreplied script) (seen_in s mid first) s mid first parts.rows)
-    → GoesOnBy turns world ended mid new first last → (ended.began ≡ world.began) × (length ended.replies ≡ length world.replies) → ((i : ℕ) → i < length ended.replies → (given : Reply) × HasReply ended.replies i given) → AreIdle (lanes_of ended.rows) → IsStore new ended.store → WorldsBegin D → LanesEnd D → ScriptRan script old mid new first last s world ended
-script_ran script lanes prepared parts old mid new first last s world ended turns o unused show given are begun going goes keeps replied idle later begin law = record {
+    → GoesOnInOrder turns (untraced world) ended mid new first last → (ended.began ≡ world.began) × (length ended.replies ≡ length world.replies) → ((i : ℕ) → i < length ended.replies → (given : Reply) × HasReply ended.replies i given) → AreIdle (lanes_of ended.rows) → IsStore new ended.store → WorldsBegin D → AlsoUntraced D → LanesEnd D → ScriptRan script old mid new first last s world ended
+script_ran script lanes parts old mid new first last s world ended turns o reads unused show are begun going goes keeps replied idle later begin unturned law = record {
   opened = o;
+  reads = reads;
   unused = unused;
   show = show;
   fresh = subst (λ (rows : List LaneRow). AreFreshRows script rows) (sym (ap (λ (w : WorldValue _). w.rows) begun.2)) are.rows;
   store_is = ap (λ (w : WorldValue _). w.store) begun.2;
   runs = ap (λ (w : WorldValue _). w.store.stopped) begun.2 ∙ o.running;
   made_is = subst (λ (n : ℕ). IsMoment mid n) (sym (ap (λ (w : WorldValue _). w.began) begun.2)) begun.1;
-  begins = λ start shows may. begins_from start script lanes parts old mid first s o world begin (going start may shows (beginning s.map o.store.entries) (at_opening old mid s o) (first_come old mid (told_calls mid) s o)) are shows may begun;
+  begins = λ start shows may.
+      unturned start script (beginning s.map o.store.entries) [] no_broken (before_opening (seen_in s mid first) old) mid first world
+      (begins_from start script lanes parts old mid first s o world begin (going start may shows (beginning s.map o.store.entries) (at_opening old mid s o) (first_come old mid (told_calls mid) s o)) are shows may begun);
   turns = turns;
   chain = goes;
   same_began = keeps.0;
@@ -608,39 +619,56 @@ script_ran script lanes prepared parts old mid new first last s world ended turn
     length_replicate zero = refl
     length_replicate (suc n) = ap suc (length_replicate n)
 
--- So its replies are given, and it is done.
-pub run_done : {D : Type 0} → (history : D → Option History) (faults : D → Faults) (script : Requests) (lanes : ℕ) (prepared : List (Option Prepared)) (parts : PartsValue) (old : Option History) (s : StoreValue D) (world ended : WorldValue D) (turns : List ℕ) → (o : OpenedNow old (history s.disk) s) → LogsShow → AreGiven script prepared → AreOfLanes lanes script → lanes ≤ 64
-    → ArePartsOf script lanes parts → HasNoTask s → LanesBegin D → WorldsBegin D → LanesEnd D → IsFreshWorld s parts (history s.disk) world → GoesOnBy turns world ended (history world.store.disk) (history ended.store.disk) (faults world.store.disk) (faults ended.store.disk) → (ended.began ≡ world.began) × (length ended.replies ≡ length world.replies)
-    → ((i : ℕ) → i < length ended.replies → (given : Reply) × HasReply ended.replies i given) → AreIdle (lanes_of ended.rows) → IsStore (history ended.store.disk) ended.store
-    → (given : List Reply) × (ended.replies ≡ map Some given) × IsServedOpen script given ended.journal old (history ended.store.disk) (faults s.disk) (faults ended.store.disk) ended.store
-run_done {D} history faults script lanes prepared parts old s world ended turns o show given in_lanes few are unused begin world_begin end begun goes keeps replied idle later =
-    script_done script old (history s.disk) (history ended.store.disk) (faults s.disk) (faults ended.store.disk) s world ended
-    (script_ran script lanes prepared parts old (history s.disk) (history ended.store.disk) (faults s.disk) (faults ended.store.disk) s world ended turns o unused show given are begun going went keeps replied idle later world_begin end)
-  where
-    going : (start : Lists) → MayRead script start old → LogsShowLists s.map (indexes_of s.boxes) start → (run : Run) → IsAtOpening run s → HasCome run s.map s.drawn (told_calls (history s.disk)) → IsGoing start script run [] no_broken (unreplied script) (seen_in s (history s.disk) (faults s.disk)) s (history s.disk) (faults s.disk) parts.rows
-    going start may shows run at come =
-        begin start script run parts.rows s (history s.disk) (faults s.disk) at come unused o.running shows (λ settled. named_all_firm s (history s.disk) start o.store o.known o.running o.reads o.instances.only settled) are.rows (of_lanes script lanes parts.rows are.many in_lanes) (subst (λ (n : ℕ). n ≤ 64) (sym are.many) few)
-        (λ place lane name uid there. elim (may (fetches script place lane name uid there)) [ inl settled ↦ inl (o.settled_again start settled) | inr one ↦ inr (one.0, λ none. carried_safe start old (history s.disk) o.carried one.1) ])
+-- ---- from a script that was opened
 
-    went : GoesOnBy turns world ended (history s.disk) (history ended.store.disk) (faults s.disk) (faults ended.store.disk)
-    went = subst (λ (t : StoreValue D). GoesOnBy turns world ended (history t.disk) (history ended.store.disk) (faults t.disk) (faults ended.store.disk)) (ap (λ (w : WorldValue D). w.store) begun.2) goes
+-- the law of what events keep of a world, in whatever order
+abbrev pub OrderKeeps : (D : Type 0) → Type 0
+OrderKeeps D = (lanes : List ℕ) (old new : WorldValue D) (before after : Option History) (first second : Faults) → GoesOnInOrder lanes old new before after first second → KeepsWorld old new before after first second
+
+went_keeps : {D : Type 0} → (history : D → Option History) (faults : D → Faults) (first last : WorldValue D) → OrderKeeps D → WentOn history faults first last → KeepsWorld (untraced first) (untraced last) (history first.store.disk) (history last.store.disk) (faults first.store.disk) (faults last.store.disk)
+went_keeps history faults first last law went = law went.0 (untraced first) (untraced last) (history first.store.disk) (history last.store.disk) (faults first.store.disk) (faults last.store.disk) went.1
+
+-- It has no requests but those with which it began.
+pub all_scripted : {D : Type 0} → (history : D → Option History) (faults : D → Faults) (script : Requests) (lanes : ℕ) (old : Option History) (began : Faults) (world ended : WorldValue D) → IsScriptOpened history faults script lanes old began world → OrderKeeps D → WentOn history faults world ended → ended.scripted ≡ length ended.replies
+all_scripted history faults script lanes old began world ended o law went =
+    let kept = went_keeps history faults world ended law went in
+    kept.scripted ∙ (ap (λ (w : WorldValue _). w.scripted) o.begins.2 ∙ (sym (length-replicate o.parts.requests None) ∙ sym (kept.requests ∙ ap (λ (w : WorldValue _). length w.replies) o.begins.2)))
+
+-- the events began where the store was open
+pub went_from : {D : Type 0} → (history : D → Option History) (faults : D → Faults) (script : Requests) (lanes : ℕ) (old : Option History) (began : Faults) (world ended : WorldValue D) → (o : IsScriptOpened history faults script lanes old began world) → (went : WentOn history faults world ended)
+    → GoesOnInOrder went.0 (untraced world) (untraced ended) (history o.store.disk) (history ended.store.disk) began (faults ended.store.disk)
+went_from {D} history faults script lanes old began world ended o went =
+    subst (λ (f : Faults). GoesOnInOrder went.0 (untraced world) (untraced ended) (history o.store.disk) (history ended.store.disk) f (faults ended.store.disk)) o.unfailed
+    (subst (λ (t : StoreValue D). GoesOnInOrder went.0 (untraced world) (untraced ended) (history t.disk) (history ended.store.disk) (faults t.disk) (faults ended.store.disk)) (ap (λ (w : WorldValue D). w.store) o.begins.2) went.1)
+
+-- So its replies are given, and it is done.
+pub run_done : {D : Type 0} → (history : D → Option History) (faults : D → Faults) (script : Requests) (lanes : ℕ) (old : Option History) (began : Faults) (world ended : WorldValue D) → ((disk : D) → IfTold (history disk) ReadsImage) → LogsShow → LanesBegin D → WorldsBegin D → LanesEnd D → OrderKeeps D → AlsoUntraced D
+    → IsScriptOpened history faults script lanes old began world → WentOn history faults world ended → ((i : ℕ) → i < length ended.replies → (given : Reply) × HasReply ended.replies i given) → AreIdle (lanes_of ended.rows) → IsStore (history ended.store.disk) ended.store
+    → (given : List Reply) × (ended.replies ≡ map Some given) × IsServedOpen script given ended.journal old (history ended.store.disk) began (faults ended.store.disk) ended.store
+run_done {D} history faults script lanes old began world ended reads show begin world_begin end law unturned o went replied idle later =
+    let kept = went_keeps history faults world ended law went in
+    script_done script old (history s.disk) (history ended.store.disk) began (faults ended.store.disk) s world (untraced ended)
+    (script_ran script lanes o.parts old (history s.disk) (history ended.store.disk) began (faults ended.store.disk) s world (untraced ended) went.0 o.opened (reads s.disk) o.unclaimed show o.are o.begins going (went_from history faults script lanes old began world ended o went) (kept.began, kept.requests) replied idle later world_begin unturned end)
+  where
+    s : StoreValue D
+    s = o.store
+
+    going : (start : Lists) → MayRead script start old → LogsShowLists s.map (indexes_of s.boxes) start → (run : Run) → IsAtOpening run s → HasCome run s.map s.drawn (told_calls (history s.disk)) → IsGoing start script run [] no_broken (unreplied script) (seen_in s (history s.disk) began) s (history s.disk) began o.parts.rows
+    going start may shows run at come =
+        let p = o.opened in
+        begin start script run o.parts.rows s (history s.disk) began at come o.unclaimed p.running shows (λ settled. named_all_firm s (history s.disk) start p.store p.known p.running (reads s.disk) p.instances.only settled) o.are.rows (of_lanes script lanes o.parts.rows o.are.many o.of_lanes) (subst (λ (n : ℕ). n ≤ 64) (sym o.are.many) o.few)
+        (λ place lane name uid there. elim (may (fetches script place lane name uid there)) [ inl settled ↦ inl (p.settled_again start settled) | inr one ↦ inr (one.0, λ none. carried_safe start old (history s.disk) p.carried one.1) ])
 
 -- what a world is taken apart into
 abbrev pub EndedParts : Type 0 → Type 0
 EndedParts D = StoreValue D × List (Option Reply) × List JournalEntry × List JournalEntry
 
--- It has no requests but those with which it began.
-pub all_scripted : {D : Type 0} → (parts : PartsValue) (store : StoreValue D) (world ended : WorldValue D) (history before after : Option History) (first second : Faults) → IsFreshWorld store parts history world → KeepsWorld world ended before after first second → ended.scripted ≡ length ended.replies
-all_scripted parts store world ended history before after first second fresh kept =
-    kept.scripted ∙ (ap (λ (w : WorldValue _). w.scripted) fresh.2 ∙ (sym (length-replicate parts.requests None) ∙ sym (kept.requests ∙ ap (λ (w : WorldValue _). length w.replies) fresh.2)))
-
 -- It is handed out so.
-pub handed_out : {D : Type 0} → (history : D → Option History) (faults : D → Faults) (script : Requests) (old : Option History) (first began : Faults) (ended : WorldValue D) (parts : EndedParts D) → parts ≡ (ended.store, ended.replies, ended.journal, ended.broken) → first ≡ began
-    → (given : List Reply) × (ended.replies ≡ map Some given) × IsServedOpen script given ended.journal old (history ended.store.disk) first (faults ended.store.disk) ended.store
+pub handed_out : {D : Type 0} → (history : D → Option History) (faults : D → Faults) (script : Requests) (old : Option History) (began : Faults) (ended : WorldValue D) (parts : EndedParts D) → parts ≡ (ended.store, ended.replies, ended.journal, ended.broken)
+    → (given : List Reply) × (ended.replies ≡ map Some given) × IsServedOpen script given ended.journal old (history ended.store.disk) began (faults ended.store.disk) ended.store
     → (given : List Reply) × (parts.1 ≡ map Some given) × IsServedOpen script given parts.2 old (history parts.0.disk) began (faults parts.0.disk) parts.0
-handed_out {D} history faults script old first began ended parts are same done =
-    subst (λ (f : Faults). (given : List Reply) × (parts.1 ≡ map Some given) × IsServedOpen script given parts.2 old (history parts.0.disk) f (faults parts.0.disk) parts.0) same
-    (subst (λ (p : EndedParts D). (given : List Reply) × (p.1 ≡ map Some given) × IsServedOpen script given p.2 old (history p.0.disk) first (faults p.0.disk) p.0) (sym are) done)
+handed_out {D} history faults script old began ended parts are done =
+    subst (λ (p : EndedParts D). (given : List Reply) × (p.1 ≡ map Some given) × IsServedOpen script given p.2 old (history p.0.disk) began (faults p.0.disk) p.0) (sym are) done
 
 -- It is handed back with the disk of its store.
 pub handed_back : {D : Type 0} → (history : D → Option History) (faults : D → Faults) (script : Requests) (replies : List (Option Reply)) (entries : List JournalEntry) (old : Option History) (began : Faults) (store : StoreValue D) (disk : D) → disk ≡ store.disk

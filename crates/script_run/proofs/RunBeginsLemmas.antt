@@ -1,33 +1,23 @@
 -- The run of a script as it begins, from the disk as it was before the store was opened.
-use Rattle.std.specs.Prelude.{◌≡◌, ℕ, false, List, [], Option, Some, None}
+use Rattle.std.specs.Prelude.{◌≡◌, ℕ, List, [], Option, Some, None}
 use Rattle.std.proofs.Common.{refl, sym, ◌∙◌, ap, subst, append-nil}
 use Rattle.std.proofs.lemmas.List.Elements.{All-nil}
-use Rattle.disk_model.specs.Disk.{History, EachImage, IfTold}
+use Rattle.disk_model.specs.Disk.{History, IfTold}
 use Rattle.mdbox_base.specs.declared.entries.BoxEntry.{BoxEntry}
 use Rattle.mdbox_base.specs.declared.entries.Highest.{Highest}
 use Rattle.mdbox_base.specs.declared.entries.MapEntry.{MapEntry}
-use Rattle.model_lists.specs.Lists.{Lists}
-use Rattle.model_kept.proofs.KeptLemmas.{ReadsImage}
 use Rattle.model_meaning.specs.MapMeaning.{MapMeaning, map_meaning}
 use Rattle.model_meaning.specs.SameMeaning.{MeansSame}
 use Rattle.model_meaning.proofs.SameMeaningLemmas.{means_itself}
 use Rattle.model_store.specs.Opening.{Opens}
-use Rattle.model_store.specs.Safe.{Safe}
-use Rattle.model_store.specs.Settled.{files_of, IsSettledFor}
+use Rattle.model_store.specs.Settled.{files_of}
 use Rattle.list_machine.specs.Run.{Run, before, map_of}
 use Rattle.journal.specs.Makes.{HasCome}
 use Rattle.task_steps.specs.Step.{Seen}
-use Rattle.storage_files.specs.Files.{AreFilesInOrder}
-use Rattle.store_core.specs.StoreInstances.{HasKnownInstances}
-use Rattle.store_core.specs.Running.{IsStore}
-use Rattle.store_core.specs.Value.{none_due, StoreValue, indexes_of}
-use Rattle.store_files.specs.Found.{IsFoundFiles}
-use Rattle.store_instances.specs.FoundInstances.{IsFoundInstances}
-use Rattle.store_open.specs.Opened.{IsOpenedAs, StoreCarries, KeepsOpenedMail, IsClosedWell}
+use Rattle.store_core.specs.Value.{StoreValue}
 use Rattle.store_seen.specs.Seeing.{IsAtOpening}
-use Rattle.store_sweep.specs.Moments.{IdleIf}
-use Rattle.store_sweep.specs.Swept.{IsSwept}
-use Rattle.script_run.specs.Opening.{RunBegins, RunHasCome, StaysSettled, barred_files}
+use Rattle.script_run.specs.Opening.{RunBegins, RunHasCome, barred_files}
+use Rattle.script_run.specs.OpenScript.{IsStoreOpened}
 use Rattle.script_run.proofs.OpenedLemmas.{bars_known, found_is_told, knows_named, named_is_there, none_doomed}
 
 -- ---- the run
@@ -56,27 +46,8 @@ run_ends run m (Some h) entries logs opens is = (entries, logs, opens, subst (λ
 
 -- ---- the opening
 
--- What is known of the opening of a store.
-pub record OpenedNow {D : Type 0} (old mid : Option History) (s : StoreValue D) : Type 0 where
-  pub opened : IsOpenedAs old s.map (indexes_of s.boxes)
-  pub store : IsStore mid s
-  pub known : HasKnownInstances mid s
-  pub drawn : s.drawn ≡ s.map.highest
-  pub free : s.dues ≡ none_due s.map.records
-  pub order : AreFilesInOrder s.files
-  pub files : IsFoundFiles s.map old s.files
-  pub instances : IsFoundInstances s.map s.instances
-  pub running : s.stopped ≡ false
-  pub safe : (lists : Lists) → IsSettledFor lists old → EachImage (λ _ image. Safe image lists) old mid
-  pub settled_again : StaysSettled old mid
-  pub carried : StoreCarries old mid
-  pub swept : (generation : ℕ) × IsSwept generation s.map old mid
-  pub stays : KeepsOpenedMail old mid
-  pub reads : IfTold mid ReadsImage
-  pub closed_well : IdleIf IsClosedWell old mid
-
 -- the store is as it was opened
-pub at_opening : {D : Type 0} → (old mid : Option History) (s : StoreValue D) → (o : OpenedNow old mid s) → IsAtOpening (beginning s.map o.store.entries) s
+pub at_opening : {D : Type 0} → (old mid : Option History) (s : StoreValue D) → (o : IsStoreOpened old mid s) → IsAtOpening (beginning s.map o.store.entries) s
 at_opening old mid s o = record {
   empty = refl;
   free = o.free;
@@ -88,9 +59,9 @@ at_opening old mid s o = record {
 }
 
 -- and the run has come to it, without an event
-pub first_come : {D : Type 0} → (old mid : Option History) (calls : ℕ) (s : StoreValue D) → (o : OpenedNow old mid s) → HasCome (beginning s.map o.store.entries) s.map s.drawn calls
+pub first_come : {D : Type 0} → (old mid : Option History) (calls : ℕ) (s : StoreValue D) → (o : IsStoreOpened old mid s) → HasCome (beginning s.map o.store.entries) s.map s.drawn calls
 first_come old mid calls s o = record { map_is = ap (map_meaning s.map.store) (append-nil o.store.entries) ∙ sym o.store.map_is; drawn_is = sym o.drawn; moments = All-nil _ }
 
 -- the run begins with the map log of the files
-pub opening_begins : {D : Type 0} → (old mid : Option History) (s : StoreValue D) → (o : OpenedNow old mid s) → RunBegins (beginning s.map o.store.entries) old
+pub opening_begins : {D : Type 0} → (old mid : Option History) (s : StoreValue D) → (o : IsStoreOpened old mid s) → RunBegins (beginning s.map o.store.entries) old
 opening_begins old mid s o = run_begins (beginning s.map o.store.entries) old o.opened.entries o.opened.logs (ap barred_files o.store.map_is) o.opened.opens (subst (λ (n : MapMeaning). MeansSame (map_meaning s.map.store o.opened.entries) n) o.store.map_is o.opened.means)

@@ -24,7 +24,8 @@ use Rattle.lane_tasks.specs.declared.task.Task.{Task}
 use Rattle.lane_tasks.specs.declared.task.Task.TheVariants as task
 use Rattle.lanes.specs.Going.{AreFreshRows, IsFreshRow, WaitsWithTask}
 use Rattle.lanes.specs.Rows.{LaneRow}
-use Rattle.lanes.specs.Worlds.{GoesInRounds, IsWorldOf, WorldValue, and_events, queued_in}
+use Rattle.lanes.specs.Turned.{GoesOnInOrder}
+use Rattle.lanes.specs.Worlds.{IsWorldOf, WorldValue, and_events, queued_in}
 use Rattle.lanes.specs.declared.lane.Queued.{Queued}
 use Rattle.script_run.specs.Script.{IsRefusedAtOnce, has_change, has_delivery, has_fetch, has_mail_read, has_purge, is_delivery, is_fetch, is_purge, only_reads, reads_mail}
 use Rattle.script_run.proofs.ChainLemmas.{AllTasks, WritesNoMail, in_turn, tasks_after}
@@ -176,9 +177,9 @@ pub record ServedSince {D : Type 0} (start : Lists) (script : Requests) (run : R
   pub later : All (λ event. told_calls before ≤ event.moment) added
   pub refused : AllTasks MayBeRefused old.rows → All IsRefusedAtOnce added → IsIdle before after
 
-pub served_since : {D : Type 0} → (last : ℕ) (lanes : List ℕ) (old new : WorldValue D) (before after : Option History) (first second : Faults) → GoesInRounds last lanes old new before after first second
+pub served_since : {D : Type 0} → (lanes : List ℕ) (old new : WorldValue D) (before after : Option History) (first second : Faults) → GoesOnInOrder lanes old new before after first second
     → (start : Lists) (script : Requests) (run : Run) (steps : List JournalStep) (failed : Broken) (began : Seen) → IsWorldOf start script run steps failed began before first old → ServedSince start script run steps began old new before after second
-served_since {D} last [] old new before after first second g start script run steps failed began is = record {
+served_since {D} [] old new before after first second g start script run steps failed began is = record {
   added = [];
   more = [];
   broke = failed;
@@ -191,10 +192,10 @@ served_since {D} last [] old new before after first second g start script run st
   later = All-nil (λ (event : RunEvent). told_calls before ≤ event.moment);
   refused = λ begun all. subst (λ (h : Option History). IsIdle before h) (sym g.1) (idle-begins before);
 }
-served_since {D} last (lane ∷ lanes) old new before after first second g start script run steps failed began is =
-    let e = g.4.goes start script run steps failed began is in
-    let r = served_since lane lanes g.0 new g.1 after g.2 second g.6 start script (and_then run e.0) (steps ++ e.1) e.2 began e.4 in
-    let grown = g.4.works.goes.goes.keeps.grows in
+served_since {D} (lane ∷ lanes) old new before after first second g start script run steps failed began is =
+    let e = g.3.goes start script run steps failed began is in
+    let r = served_since lanes g.0 new g.1 after g.2 second g.5 start script (and_then run e.0) (steps ++ e.1) e.2 began e.4 in
+    let grown = g.3.works.goes.goes.keeps.grows in
     record {
       added = e.0 ∷ r.added;
       more = e.1 ++ r.more;
@@ -207,8 +208,8 @@ served_since {D} last (lane ∷ lanes) old new before after first second g start
           (All-weaker (λ (event : RunEvent). told_calls g.1 ≤ event.moment) (λ (event : RunEvent). told_calls before ≤ event.moment) (λ event at. omega (arith, at, grown)) r.added r.later);
       refused = λ begun all.
           let at_once = All-head IsRefusedAtOnce e.0 r.added all in
-          let answered : ended_by g.4.works.event.ended ≡ Some (reply.Refused at_once.0) = sym e.3.reply_is ∙ at_once.1 in
-          let own = (in_turn MayBeRefused lane old g.0 before g.1 first g.2 g.4 begun).0 in
-          let rest = tasks_after MayBeRefused lane old g.0 before g.1 first g.2 g.4 (λ more. absurd (let k : None ≡ Some (reply.Refused at_once.0) = sym more ∙ answered in cc k)) begun in
-          idle-then before g.1 after (refused_event g.4.works.goes.queued.task g.4.works.goes.next old.store g.0.store before g.1 first g.2 (ended_by g.4.works.event.ended) at_once.0 own answered at_once.2 g.4.works.goes.goes.keeps) (r.refused rest (All-tail IsRefusedAtOnce e.0 r.added all));
+          let answered : ended_by g.3.works.event.ended ≡ Some (reply.Refused at_once.0) = sym e.3.reply_is ∙ at_once.1 in
+          let own = (in_turn MayBeRefused lane old g.0 before g.1 first g.2 g.3 begun).0 in
+          let rest = tasks_after MayBeRefused lane old g.0 before g.1 first g.2 g.3 (λ more. absurd (let k : None ≡ Some (reply.Refused at_once.0) = sym more ∙ answered in cc k)) begun in
+          idle-then before g.1 after (refused_event g.3.works.goes.queued.task g.3.works.goes.next old.store g.0.store before g.1 first g.2 (ended_by g.3.works.event.ended) at_once.0 own answered at_once.2 g.3.works.goes.goes.keeps) (r.refused rest (All-tail IsRefusedAtOnce e.0 r.added all));
     }

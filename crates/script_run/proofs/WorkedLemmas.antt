@@ -1,5 +1,5 @@
 -- What a world did is handed out with its store, and handed back with the disk.
-use Rattle.std.specs.Prelude.{◌≡◌, ℕ, false, List, [], ◌∷◌, Option, Some, None, length, map, replicate, slice_get}
+use Rattle.std.specs.Prelude.{◌≡◌, ℕ, List, [], ◌∷◌, Option, Some, None, length, map, replicate, slice_get}
 use Rattle.std.proofs.Common.{refl, sym, ap, subst, ◌∙◌}
 use Rattle.disk_model.specs.Disk.{Faults, History}
 use Rattle.mdbox_base.specs.declared.replies.Reply.{Reply}
@@ -7,55 +7,49 @@ use Rattle.mdbox_base.specs.declared.requests.Request.{Request}
 use Rattle.mdbox_base.specs.declared.script.JournalEntry.{JournalEntry}
 use Rattle.mdbox_base.specs.declared.script.Script.{Script}
 use Rattle.journal.specs.Journal.{Requests}
-use Rattle.lanes.specs.Worlds.{ArePartsOf, GoesOnBy, IsFreshWorld, PartsValue, WorldValue}
+use Rattle.lanes.specs.Turned.{WentOn, untraced}
+use Rattle.lanes.specs.Worlds.{WorldValue}
 use Rattle.store_core.specs.Running.{IsStore}
 use Rattle.store_core.specs.StoreInstances.{HasKnownInstances}
-use Rattle.store_core.specs.Value.{StoreValue, indexes_of}
-use Rattle.store_files.specs.Found.{IsFoundFiles}
-use Rattle.store_open.specs.Opened.{IsOpenedAs, StoreCarries}
-use Rattle.store_sweep.specs.Swept.{IsSwept}
+use Rattle.store_core.specs.Value.{StoreValue}
 use Rattle.lane_tasks.specs.Tasks.{BeginsTask}
 use Rattle.lane_tasks.specs.declared.task.Task.{Task}
 use Rattle.lanes.specs.Going.{AreFreshRows}
-use Rattle.lanes.proofs.TraceLemmas.{as_finished}
 use Rattle.script_run.proofs.AloneLemmas.{request_here}
 use Rattle.script_run.proofs.ChainLemmas.{stays_over}
-use Rattle.script_run.proofs.DoneLemmas.{EndedParts}
+use Rattle.script_run.proofs.DoneLemmas.{EndedParts, went_from}
 use Rattle.script_run.proofs.OneTaskLemmas.{IsAloneSo, KeepsAlone, KeepsCounted, alone_fresh, alone_on}
 use Rattle.script_run.specs.LeftOpen.{IsRequestDone, IsServedOpen}
 use Rattle.script_run.specs.One.{alone}
-use Rattle.script_run.specs.Opening.{StaysSettled}
+use Rattle.script_run.specs.OpenScript.{IsScriptOpened}
 use Rattle.script_run.specs.Worked.{IsWorkedOut}
 
--- A world that began with these parts went on to one that was taken apart so.
-pub worked_out : {D : Type 0} → (history : D → Option History) (faults : D → Faults) (script : Requests) (lanes : ℕ) (parts : PartsValue) (old : Option History) (began : Faults) (s : StoreValue D) (world ended : WorldValue D) (turns : List ℕ) (apart : EndedParts D) → IsOpenedAs old s.map (indexes_of s.boxes) → (generation : ℕ) × IsSwept generation s.map old (history s.disk) → StoreCarries old (history s.disk) → StaysSettled old (history s.disk) → IsFoundFiles s.map old s.files → s.drawn ≡ s.map.highest
-    → IsStore (history s.disk) s → HasKnownInstances (history s.disk) s → s.stopped ≡ false → IsStore (history ended.store.disk) ended.store → HasKnownInstances (history ended.store.disk) ended.store
-    → ArePartsOf script lanes parts → IsFreshWorld s parts (history s.disk) world → GoesOnBy turns world ended (history world.store.disk) (history ended.store.disk) (faults world.store.disk) (faults ended.store.disk) → apart ≡ (ended.store, ended.replies, ended.journal, ended.broken) → faults s.disk ≡ began
-    → IsWorkedOut D script lanes apart.1 apart.2 old (history apart.0.disk) began (faults apart.0.disk)
-worked_out {D} history faults script lanes parts old began s world ended turns apart opens swept carried again found drawn sound known running later later_known are begun goes is same =
-    subst (λ (f : Faults). IsWorkedOut D script lanes apart.1 apart.2 old (history apart.0.disk) f (faults apart.0.disk)) same
-    (subst (λ (p : EndedParts D). IsWorkedOut D script lanes p.1 p.2 old (history p.0.disk) (faults s.disk) (faults p.0.disk)) (sym is) whole)
+-- A script was opened, and its world went on to one that was taken apart so.
+pub worked_out : {D : Type 0} → (history : D → Option History) (faults : D → Faults) (script : Requests) (lanes : ℕ) (old : Option History) (began : Faults) (world ended : WorldValue D) (apart : EndedParts D) → IsScriptOpened history faults script lanes old began world → WentOn history faults world ended
+    → IsStore (history ended.store.disk) ended.store → HasKnownInstances (history ended.store.disk) ended.store → apart ≡ (ended.store, ended.replies, ended.journal, ended.broken) → IsWorkedOut D script lanes apart.1 apart.2 old (history apart.0.disk) began (faults apart.0.disk)
+worked_out {D} history faults script lanes old began world ended apart o went later later_known is =
+    subst (λ (p : EndedParts D). IsWorkedOut D script lanes p.1 p.2 old (history p.0.disk) began (faults p.0.disk)) (sym is) whole
   where
-    whole : IsWorkedOut D script lanes ended.replies ended.journal old (history ended.store.disk) (faults s.disk) (faults ended.store.disk)
-    whole = record {
-      opened = history s.disk;
-      store = s;
-      opens = opens;
-      swept = swept;
-      carried = carried;
-      settled_again = again;
-      found = found;
-      drawn = drawn;
-      sound = sound;
-      known = known;
-      running = running;
-      parts = parts;
-      are = are;
+    whole : IsWorkedOut D script lanes ended.replies ended.journal old (history ended.store.disk) began (faults ended.store.disk)
+    whole = let p = o.opened in record {
+      opened = history o.store.disk;
+      store = o.store;
+      opens = p.opened;
+      swept = p.swept;
+      carried = p.carried;
+      settled_again = p.settled_again;
+      found = p.files;
+      drawn = p.drawn;
+      sound = p.store;
+      known = p.known;
+      running = p.running;
+      parts = o.parts;
+      are = o.are;
       fresh = world;
-      begins = begun;
+      begins = o.begins;
       last = ended;
-      turns = turns;
-      goes = subst (λ (t : StoreValue D). GoesOnBy turns world ended (history t.disk) (history ended.store.disk) (faults t.disk) (faults ended.store.disk)) (ap (λ (w : WorldValue D). w.store) begun.2) goes;
+      turns = went.0;
+      goes = went_from history faults script lanes old began world ended o went;
       later = later;
       later_known = later_known;
       replies_are = refl;
@@ -84,7 +78,7 @@ worked_alone {D} history faults request script given one replies entries old beg
 pub worked_counted : {D : Type 0} → (Stands : Task → StoreValue D → Option History → Faults → Type 0) (Told : Reply → StoreValue D → Option History → Faults → Type 0) (asked : Request) (one : Reply) (entries : List JournalEntry) (old new : Option History) (began now : Faults) → (w : IsWorkedOut D (alone asked) 1 (Some one ∷ []) entries old new began now)
     → KeepsCounted Stands Told → ((t : Task) → BeginsTask asked t → Stands t w.store w.opened began) → Told one w.last.store new now
 worked_counted {D} Stands Told asked one entries old new began now w keeps begun =
-    (stays_over (IsAloneSo Stands Told 1) (alone_on Stands Told 1 keeps) 0 w.turns (as_finished w.fresh) w.last w.opened new began now w.goes
+    (stays_over (IsAloneSo Stands Told 1) (alone_on Stands Told 1 keeps) w.turns (untraced w.fresh) (untraced w.last) w.opened new began now w.goes
     (record {
       one = ap length replies;
       rows = alone_fresh (λ t. Stands t w.fresh.store w.opened began) 1 asked w.fresh.rows (λ t b. subst (λ (v : StoreValue D). Stands t v w.opened began) (sym (ap (λ (f : WorldValue D). f.store) w.begins.2)) (begun t b))

@@ -2,6 +2,7 @@ pub mod Done
 pub mod Faults
 pub mod LeftOpen
 pub mod One
+pub mod OpenScript
 pub mod Opening
 pub mod Purged
 pub mod Resynced

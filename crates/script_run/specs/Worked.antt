@@ -4,7 +4,8 @@ use Rattle.disk_model.specs.Disk.{Faults, History}
 use Rattle.mdbox_base.specs.declared.replies.Reply.{Reply}
 use Rattle.mdbox_base.specs.declared.script.JournalEntry.{JournalEntry}
 use Rattle.journal.specs.Journal.{Requests}
-use Rattle.lanes.specs.Worlds.{ArePartsOf, GoesOnBy, IsFreshWorld, PartsValue, WorldValue}
+use Rattle.lanes.specs.Turned.{GoesOnInOrder, untraced}
+use Rattle.lanes.specs.Worlds.{ArePartsOf, IsFreshWorld, PartsValue, WorldValue}
 use Rattle.store_core.specs.Running.{IsStore}
 use Rattle.store_core.specs.StoreInstances.{HasKnownInstances}
 use Rattle.store_core.specs.Value.{StoreValue, indexes_of}
@@ -15,8 +16,8 @@ use Rattle.script_run.specs.Opening.{StaysSettled}
 
 -- The store was opened, with logs, storage files and instances that the files have, and isn't stopped; the opening swept the disk,
 -- carried over all that the store reads, and left a disk settled that was so. A world of the script's requests, of so many lanes, began
--- over it, and went on by its events in rounds: each is a step of its request's task, from the store as it was then. The replies and the
--- journal are those that the world had at its end, and its store is one of the disk.
+-- over it, and went on by events of its lanes, in whatever order: each is a step of its request's task, from the store as it was then. The
+-- replies and the journal are those that the world had at its end, and its store is one of the disk.
 pub record IsWorkedOut (D : Type 0) (script : Requests) (lanes : ℕ) (replies : List (Option Reply)) (entries : List JournalEntry) (old new : Option History) (began now : Faults) : Type 0 where
   pub opened : Option History
   pub store : StoreValue D
@@ -35,7 +36,7 @@ pub record IsWorkedOut (D : Type 0) (script : Requests) (lanes : ℕ) (replies :
   pub begins : IsFreshWorld store parts opened fresh
   pub last : WorldValue D
   pub turns : List ℕ
-  pub goes : GoesOnBy turns fresh last opened new began now
+  pub goes : GoesOnInOrder turns (untraced fresh) (untraced last) opened new began now
   pub later : IsStore new last.store
   pub later_known : HasKnownInstances new last.store
   pub replies_are : replies ≡ last.replies

@@ -1,17 +1,25 @@
 // The run of a script, and of a request alone.
-ghost use Rattle.std.specs.Prelude.{◌≡◌, ◌≤◌, ◌∷◌, [], List, Some, length, map, IfErr, IfOk};
+ghost use Rattle.std.specs.Prelude.{◌≡◌, ◌≤◌, ◌∷◌, [], false, ℕ, List, Option, Some, length, map, IfErr, IfOk};
+ghost use Rattle.disk_model.specs.Disk.{Faults, History};
 ghost use Rattle.mdbox_base.specs.declared.replies.Reply.{Reply as ReplyValue};
-ghost use Rattle.lanes.specs.Worlds.{AreGiven, AreOfLanes, HasItsMessage};
+ghost use Rattle.journal.specs.Journal.{Requests};
+ghost use Rattle.serving.specs.Serving.{AreIdle};
+ghost use Rattle.lanes.specs.Kept.{AreKeptOf};
+ghost use Rattle.lanes.specs.Rows.{lanes_of};
+ghost use Rattle.lanes.specs.Turned.{WentOn};
+ghost use Rattle.lanes.specs.Worlds.{AreGiven, AreOfLanes, HasItsMessage, WorldValue};
 ghost use Rattle.script_run.specs.Done.{IsScriptDone};
 ghost use Rattle.script_run.specs.LeftOpen.{IsRequestDone, IsServedOpen};
 ghost use Rattle.script_run.specs.One.{alone};
+ghost use Rattle.script_run.specs.OpenScript.{IsScriptOpened};
 ghost use Rattle.script_run.specs.Opening.{IsUnopened};
 ghost use Rattle.script_run.specs.Worked.{IsWorkedOut};
 
 use attach_detach::Prepared;
 use disk_model::Disk;
 use lanes::{
-    World, WorldParts, idle_worlds_have_replied, lanes_begin, lanes_end, worlds_begin, worlds_go_on,
+    World, WorldParts, events_are_in_order, idle_worlds_have_replied, lanes_begin, lanes_end,
+    rounds_are_events, worlds_begin,
 };
 use mdbox_base::{JournalEntry, NoMemory, Reply, Request, Script, Seq};
 use std::alloc::Global;
@@ -81,12 +89,28 @@ pub fn serve_script<D: Disk>(
     ensures worked { IfOk result (λ served. IsWorkedOut D script.requests script.lanes served.replies served.journal (D.history disk) (D.history served.store.disk) (D.faults disk) (D.faults served.store.disk)) }
     ensures refused { IfErr result (λ refused. IsUnopened refused.error (D.history disk) (D.history refused.disk) (D.faults disk) (D.faults refused.disk)) }
 {
-    listings_are_shown();
-    lanes_begin::<D>();
-    worlds_begin::<D>();
-    lanes_end::<D>();
-    worlds_go_on::<D>();
-    idle_worlds_have_replied::<D>();
+    rounds_are_events::<D>();
+    let mut world = open_script(alloc, disk, script, prepared)?;
+    world.known_facts();
+    world.finish();
+    Ok(close_script(world))
+}
+
+/// Opens the store, and begins a world of a script over it, of which nothing is done yet. What is wanted of memory for it is taken before
+/// the store is opened.
+pub fn open_script<D: Disk>(
+    alloc: Global,
+    disk: D,
+    script: Script,
+    prepared: Seq<Option<Prepared>>,
+) -> Result<World<D>, OpenRefused<D>>
+    requires lanes { (1 ≤ script.lanes) × (script.lanes ≤ 64) × AreOfLanes script.lanes script.requests }
+    requires few { length script.requests ≤ 100000 }
+    requires given { AreGiven script.requests prepared }
+    ensures opened { IfOk result (λ world. IsScriptOpened D.history D.faults script.requests script.lanes (D.history disk) (D.faults disk) world) }
+    ensures fresh { IfOk result (λ world. (length world.rows ≡ script.lanes) × (world.turns ≡ []) × (world.finished ≡ false)) }
+    ensures refused { IfErr result (λ refused. IsUnopened refused.error (D.history disk) (D.history refused.disk) (D.faults disk) (D.faults refused.disk)) }
+{
     let lanes = script.lanes;
     let Ok(parts) = WorldParts::of(alloc, script, prepared) else {
         return Err(OpenRefused {
@@ -97,18 +121,34 @@ pub fn serve_script<D: Disk>(
     match open_store(alloc, disk, lanes) {
         Ok(store) => {
             store.facts();
-            let mut world = World::of(store, parts);
-            world.finish();
-            world.known_facts();
-            let (store, replies, journal, _broken) = world.into_parts();
-            store.facts();
-            Ok(ServedScript {
-                replies,
-                journal,
-                store,
-            })
+            Ok(World::of(store, parts))
         }
         Err(refused) => Err(refused),
+    }
+}
+
+/// Takes apart a world none of whose lanes has a request left: what came of its requests, and the store, which stays open.
+pub fn close_script<D: Disk>(world: World<D>) -> ServedScript<D>
+    requires idle { AreIdle (lanes_of world.rows) }
+    ensures parts { (result.store ≡ world.store) × (result.journal ≡ world.journal) × AreKeptOf world.scripted world.replies result.replies }
+    // Of whatever script and whatever opening it went on, in whatever order its events were made, the script is served.
+    ensures served { (script : Requests) (lanes : ℕ) (old : Option History) (began : Faults) (first : WorldValue D) → IsScriptOpened D.history D.faults script lanes old began first → WentOn D.history D.faults first world
+        → (given : List ReplyValue) × (result.replies ≡ map Some given) × IsServedOpen script given result.journal old (D.history result.store.disk) began (D.faults result.store.disk) result.store }
+    ensures worked { (script : Requests) (lanes : ℕ) (old : Option History) (began : Faults) (first : WorldValue D) → IsScriptOpened D.history D.faults script lanes old began first → WentOn D.history D.faults first world → IsWorkedOut D script lanes result.replies result.journal old (D.history result.store.disk) began (D.faults result.store.disk) }
+{
+    listings_are_shown();
+    lanes_begin::<D>();
+    worlds_begin::<D>();
+    lanes_end::<D>();
+    events_are_in_order::<D>();
+    idle_worlds_have_replied::<D>();
+    world.known_facts();
+    let (store, replies, journal, _broken) = world.into_parts();
+    store.facts();
+    ServedScript {
+        replies,
+        journal,
+        store,
     }
 }
 

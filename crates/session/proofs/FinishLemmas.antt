@@ -2,13 +2,14 @@
 use Rattle.std.specs.Prelude.{◌<◌, ◌≤◌, suc, length, replicate, slice_get}
 use Rattle.std.proofs.Common.{◌≡◌, ℕ, true, false, List, [], ◌∷◌, Option, Some, None, refl, sym, ◌∙◌, ap, subst, arith}
 use Rattle.std.proofs.lemmas.List.Elements.{All-cons, All-nil}
-use Rattle.disk_model.specs.Disk.{Faults, History, told_calls}
+use Rattle.disk_model.specs.Disk.{Faults, History, IfTold, told_calls}
 use Rattle.mdbox_base.specs.declared.replies.Refusal.TheVariants as refused
 use Rattle.mdbox_base.specs.declared.replies.Reply.{Reply}
 use Rattle.mdbox_base.specs.declared.replies.Reply.TheVariants as reply
 use Rattle.mdbox_base.specs.declared.requests.Request.{Request}
 use Rattle.mdbox_base.specs.declared.requests.Request.TheVariants as request
 use Rattle.mdbox_base.specs.declared.script.JournalEntry.{JournalEntry}
+use Rattle.model_kept.proofs.KeptLemmas.{ReadsImage}
 use Rattle.model_lists.specs.Lists.{Lists}
 use Rattle.journal.specs.Journal.{no_broken}
 use Rattle.serving.specs.Lanes.{LaneValue}
@@ -25,8 +26,9 @@ use Rattle.lanes.specs.Worlds.{ArePartsOf, GoesOnBy, IsFreshWorld, KeepsWorld, P
 use Rattle.request_text.specs.declared.outcome.Outcome.{Outcome}
 use Rattle.script_text.specs.Taking.{OfSource}
 use Rattle.script_run.specs.Opening.{LogsShowLists}
+use Rattle.script_run.specs.OpenScript.{IsStoreOpened}
 use Rattle.script_run.proofs.DoneLemmas.{LanesBegin, LanesEnd, WorldsBegin, begins_from, of_lanes}
-use Rattle.script_run.proofs.RunBeginsLemmas.{OpenedNow, at_opening, beginning, first_come}
+use Rattle.script_run.proofs.RunBeginsLemmas.{at_opening, beginning, first_come}
 use Rattle.script_run.proofs.ShownLemmas.{LogsShow}
 use Rattle.session.specs.OneRequest.{HaveReplies, IsWaiting}
 use Rattle.session.specs.Session.{IsSessionDone}
@@ -60,13 +62,14 @@ fresh_empty s parts history world are begun = ap (λ (w : WorldValue _). w.repli
 
 -- ---- it ends
 
-pub session_finished : {D : Type 0} → (history : D → Option History) (faults : D → Faults) (old : Option History) (parts : PartsValue) (s : StoreValue D) (world new final : WorldValue D) (turns : List ℕ) → OpenedNow old (history s.disk) s → LogsShow → ArePartsOf [] 64 parts → HasNoTask s → LanesBegin D → WorldsBegin D → LanesEnd D
+pub session_finished : {D : Type 0} → (history : D → Option History) (faults : D → Faults) (old : Option History) (parts : PartsValue) (s : StoreValue D) (world new final : WorldValue D) (turns : List ℕ) → IsStoreOpened old (history s.disk) s → ((disk : D) → IfTold (history disk) ReadsImage) → LogsShow → ArePartsOf [] 64 parts → HasNoTask s → LanesBegin D → WorldsBegin D → LanesEnd D
     → IsFreshWorld s parts (history s.disk) world → GoesOnBy turns new final (history new.store.disk) (history final.store.disk) (faults new.store.disk) (faults final.store.disk) → KeepsWorld new final (history new.store.disk) (history final.store.disk) (faults new.store.disk) (faults final.store.disk)
     → HaveReplies final.replies → AreIdle (lanes_of final.rows) → IsStore (history final.store.disk) final.store → length final.replies ≤ 100000 → SessionEnded history faults old world new final
-session_finished {D} history faults old parts s world new final turns o show are unused begin world_begins end begun goes keeps replied idle later short =
+session_finished {D} history faults old parts s world new final turns o reads show are unused begin world_begins end begun goes keeps replied idle later short =
     subst (λ (w : WorldValue D). SessionEnded history faults old w new final) (sym begun.2)
     (record {
       opened = o;
+      reads = reads s.disk;
       show = show;
       fresh = are.rows;
       unturned = refl;
@@ -86,7 +89,7 @@ session_finished {D} history faults old parts s world new final turns o show are
     going : (start : Lists) → LogsShowLists s.map (indexes_of s.boxes) start → IsGoing start [] (beginning s.map o.store.entries) [] no_broken (unreplied []) (seen_in s (history s.disk) (faults s.disk)) s (history s.disk) (faults s.disk) parts.rows
     going start shows =
         begin start [] (beginning s.map o.store.entries) parts.rows s (history s.disk) (faults s.disk) (at_opening old (history s.disk) s o) (first_come old (history s.disk) (told_calls (history s.disk)) s o) unused o.running shows
-        (λ settled. named_all_firm s (history s.disk) start o.store o.known o.running o.reads o.instances.only settled) are.rows (of_lanes [] 64 parts.rows are.many (All-nil (λ (asked : ℕ × Request). (0 < asked.0) × (asked.0 ≤ 64))))
+        (λ settled. named_all_firm s (history s.disk) start o.store o.known o.running (reads s.disk) o.instances.only settled) are.rows (of_lanes [] 64 parts.rows are.many (All-nil (λ (asked : ℕ × Request). (0 < asked.0) × (asked.0 ≤ 64))))
         (let many = are.many in omega (arith, many)) (λ place lane name uid there. absurd (let k : None ≡ Some (lane, request.Fetch name uid) = there in cc k))
 
 -- it is told of the disk that is handed back, and from its counts of faults as they were before the opening

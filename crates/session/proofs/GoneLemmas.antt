@@ -4,13 +4,14 @@ use Rattle.std.specs.List.{AllByRecursion, count_by, list_any}
 use Rattle.std.proofs.Common.{◌≡◌, ◌++◌, ℕ, zero, true, false, List, [], ◌∷◌, Option, Some, None, refl, sym, ◌∙◌, ap, subst, arith, inl, inr}
 use Rattle.std.proofs.lemmas.List.{append-nil, append_assoc}
 use Rattle.std.proofs.lemmas.List.Elements.{All-append}
-use Rattle.disk_model.specs.Disk.{Faults, History, IsMoment}
+use Rattle.disk_model.specs.Disk.{Faults, History, IfTold, IsMoment}
 use Rattle.mdbox_base.specs.Streams.{Appended, IsAtEnd, Taken}
 use Rattle.mdbox_base.specs.declared.replies.Refusal.TheVariants as refused
 use Rattle.mdbox_base.specs.declared.replies.Reply.{Reply}
 use Rattle.mdbox_base.specs.declared.replies.Reply.TheVariants as reply
 use Rattle.mdbox_base.specs.declared.requests.Request.{Request}
 use Rattle.mdbox_base.specs.declared.script.JournalEntry.{JournalEntry}
+use Rattle.model_kept.proofs.KeptLemmas.{ReadsImage}
 use Rattle.model_lists.specs.Lists.{Lists}
 use Rattle.journal.specs.Journal.{HasReply, Requests, no_broken}
 use Rattle.piece_writer.specs.Pieces.{WritesPrefix}
@@ -34,10 +35,11 @@ use Rattle.script_text.specs.Script.{BeginsNoRequest, FitsLanes, request_text, s
 use Rattle.script_text.specs.Taking.{OfSource, extent}
 use Rattle.script_text.specs.declared.flaw.ScriptFlaw.{ScriptFlaw}
 use Rattle.script_run.specs.Opening.{LogsShowLists}
+use Rattle.script_run.specs.OpenScript.{IsStoreOpened}
 use Rattle.script_run.specs.Script.{HasStopped}
 use Rattle.script_run.proofs.DoneLemmas.{LanesEnd, RunLeft, at_given, done_run, given_at}
 use Rattle.script_run.proofs.EndLemmas.{all_given}
-use Rattle.script_run.proofs.RunBeginsLemmas.{OpenedNow, before_opening, beginning}
+use Rattle.script_run.proofs.RunBeginsLemmas.{before_opening, beginning}
 use Rattle.script_run.proofs.ShownLemmas.{LogsShow}
 use Rattle.session.specs.OneRequest.{EndsSession, EndsByRequest, FindsNone, HaveReplies, IsAnswered, IsUnderWay, last_text}
 use Rattle.session.specs.Rounds.{HasGone, HasServed}
@@ -54,7 +56,8 @@ no_rounds last (lane ∷ turns) new final before after first second each g = abs
 
 -- What is known of a session at its end: the opening, the world that began then, and the events that finished the last request.
 pub record SessionEnded {D : Type 0} (history : D → Option History) (faults : D → Faults) (old : Option History) (world new final : WorldValue D) : Type 0 where
-  pub opened : OpenedNow old (history world.store.disk) world.store
+  pub opened : IsStoreOpened old (history world.store.disk) world.store
+  pub reads : IfTold (history world.store.disk) ReadsImage
   pub show : LogsShow
   pub fresh : AreFreshRows [] world.rows
   pub unturned : world.turns ≡ []
@@ -189,6 +192,7 @@ module _ {D : Type 0} (history : D → Option History) (faults : D → Faults) (
       let none : length world.replies ≡ 0 = ap length e.none in
       left_of_session history faults (asked_in moves) old world new final (record {
         opened = e.opened;
+        reads = e.reads;
         show = e.show;
         fresh = e.fresh;
         unturned = e.unturned;

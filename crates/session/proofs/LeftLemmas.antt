@@ -3,11 +3,11 @@ use Rattle.std.specs.Prelude.{◌<◌, ◌≤◌, All, length}
 use Rattle.std.proofs.Common.{◌≡◌, ◌++◌, ℕ, true, false, List, [], ◌∷◌, Option, Some, None, refl, sym, subst, arith, inl, inr}
 use Rattle.std.proofs.lemmas.List.{append_assoc}
 use Rattle.std.proofs.lemmas.List.Elements.{All-append, All-cons, All-head, All-nil, All-tail, All-weaker}
-use Rattle.disk_model.specs.Disk.{Faults, History, IsMoment, told_calls}
+use Rattle.disk_model.specs.Disk.{Faults, History, IfTold, IsMoment, told_calls}
 use Rattle.disk_model.proofs.IdleLemmas.{idle-begins, idle-then}
 use Rattle.mdbox_base.specs.declared.replies.Reply.{Reply}
 use Rattle.mdbox_base.specs.declared.requests.Request.{Request}
-use Rattle.model_kept.proofs.KeptLemmas.{kept_begins}
+use Rattle.model_kept.proofs.KeptLemmas.{ReadsImage, kept_begins}
 use Rattle.model_lists.specs.Lists.{Lists}
 use Rattle.model_meaning.specs.MapMeaning.{MapMeaning, is_sealed}
 use Rattle.list_machine.specs.Run.{Run, RunEvent, map_of}
@@ -24,15 +24,18 @@ use Rattle.lane_tasks.specs.declared.task.Task.{Task}
 use Rattle.lanes.specs.Asked.{GoesWith, HasNoIdleTurn, asked_in}
 use Rattle.lanes.specs.Going.{AreFreshRows}
 use Rattle.lanes.specs.Rows.{lanes_of}
+use Rattle.lanes.specs.Turned.{GoesOnInOrder}
 use Rattle.lanes.specs.Worlds.{GoesOnBy, IsWorldOf, WorldValue, and_events}
+use Rattle.lanes.proofs.RoundLemmas.{in_order}
 use Rattle.lanes.proofs.TraceLemmas.{as_finished, world_finished}
 use Rattle.script_run.specs.Done.{MayRead}
 use Rattle.script_run.specs.Opening.{LogsShowLists}
+use Rattle.script_run.specs.OpenScript.{IsStoreOpened}
 use Rattle.script_run.specs.Script.{IsRefusedAtOnce, has_change, has_delivery, has_fetch, has_mail_read, has_purge}
 use Rattle.script_run.proofs.ChainLemmas.{AllTasks, HasCounted, HasDoomedNone, HasOnlyRead, HasReadAsTold, HasReadNoOctets, HasWrittenNone, WritesNoMail, calm_on, counted_first, counted_on, reads_on, stays_over, syncs_first, unread_on, unwritten_on}
 use Rattle.script_run.proofs.DoneLemmas.{LanesEnd, RunLeft, RunSince}
 use Rattle.script_run.proofs.OpenedLemmas.{none_doomed}
-use Rattle.script_run.proofs.RunBeginsLemmas.{OpenedNow, before_opening, beginning}
+use Rattle.script_run.proofs.RunBeginsLemmas.{before_opening, beginning}
 use Rattle.script_run.proofs.SealedLemmas.{HasKeptSealed, sealed_on, sealed_only}
 use Rattle.script_run.proofs.ShownLemmas.{LogsShow, carried_safe}
 use Rattle.script_run.proofs.SinceLemmas.{MayBeRefused, answers_first, changes_none, dooms_first, fresh_tasks, reads_first, reads_unpurged, served_since, unpurged, unread_first, unwritten_first}
@@ -41,7 +44,8 @@ use Rattle.session.proofs.ChainLemmas.{Finds, calm_asked, counted_asked, reads_a
 -- What is known of a session's run: the opening, the world that began then, without a request, what was asked of it and its events, and
 -- the events that finished it.
 pub record SessionRan {D : Type 0} (history : D → Option History) (faults : D → Faults) (script : Requests) (old : Option History) (world mid ended : WorldValue D) : Type 0 where
-  pub opened : OpenedNow old (history world.store.disk) world.store
+  pub opened : IsStoreOpened old (history world.store.disk) world.store
+  pub reads : IfTold (history world.store.disk) ReadsImage
   pub show : LogsShow
   pub fresh : AreFreshRows [] world.rows
   pub unturned : world.turns ≡ []
@@ -88,6 +92,10 @@ module _ {D : Type 0} (history : D → Option History) (faults : D → Faults) (
   abbrev left_faults : Faults
   left_faults = faults ended.store.disk
 
+  -- the events that finished it
+  chain : GoesOnInOrder r.turns (as_finished mid) ended asked_disk left_disk asked_faults left_faults
+  chain = in_order 0 r.turns (as_finished mid) ended asked_disk left_disk asked_faults left_faults r.ends
+
   -- the tasks of a world without a request
   no_tasks : (Holds : Task → Type 0) → AllTasks Holds world.rows
   no_tasks Holds = fresh_tasks Holds [] world.rows (λ place lane asked t at begins. absurd (let k : None ≡ Some (lane, asked) = at in cc k)) r.fresh
@@ -99,7 +107,7 @@ module _ {D : Type 0} (history : D → Option History) (faults : D → Faults) (
   counted_then = stays_with history faults script (HasCounted opened_disk opened_faults) (counted_on opened_disk opened_faults) (counted_asked script opened_disk opened_faults) [] r.moves world mid r.script_is r.goes (counted_first world opened_disk opened_faults r.opened.running)
 
   counted_last : HasCounted opened_disk opened_faults ended left_disk left_faults
-  counted_last = stays_over (HasCounted opened_disk opened_faults) (counted_on opened_disk opened_faults) 0 r.turns (as_finished mid) ended asked_disk left_disk asked_faults left_faults r.ends (record { grows = counted_then.grows; reads = counted_then.reads; changes = counted_then.changes; unchanged = counted_then.unchanged; replied = counted_then.replied })
+  counted_last = stays_over (HasCounted opened_disk opened_faults) (counted_on opened_disk opened_faults) r.turns (as_finished mid) ended asked_disk left_disk asked_faults left_faults chain (record { grows = counted_then.grows; reads = counted_then.reads; changes = counted_then.changes; unchanged = counted_then.unchanged; replied = counted_then.replied })
 
   since_run : (start : Lists) → LogsShowLists world.store.map (indexes_of world.store.boxes) start → MayRead script start old
       → RunSince start script (beginning world.store.map r.opened.store.entries) (before_opening (seen_in world.store opened_disk opened_faults) old) ended opened_disk left_disk left_faults
@@ -108,7 +116,7 @@ module _ {D : Type 0} (history : D → Option History) (faults : D → Faults) (
       let from : Seen = before_opening (seen_in world.store opened_disk opened_faults) old in
       let finds : Finds history faults start script from run opened_disk = λ some. elim (may some) [ inl settled ↦ inl settled | inr one ↦ inr (one.0, λ none. carried_safe start old opened_disk r.opened.carried one.1) ] in
       let w = served_with history faults start script from [] r.moves world mid run [] no_broken r.script_is r.goes finds not_busy (r.begins start shows) in
-      let e = served_since 0 r.turns (as_finished mid) ended asked_disk left_disk asked_faults left_faults r.ends start script (and_events run w.added) w.more w.broke from (world_finished start script (and_events run w.added) w.more w.broke from asked_disk asked_faults mid w.is) in
+      let e = served_since r.turns (as_finished mid) ended asked_disk left_disk asked_faults left_faults chain start script (and_events run w.added) w.more w.broke from (world_finished start script (and_events run w.added) w.more w.broke from asked_disk asked_faults mid w.is) in
       let grown = counted_then.grows in
       record {
         added = w.added ++ e.added;
@@ -133,7 +141,7 @@ module _ {D : Type 0} (history : D → Option History) (faults : D → Faults) (
       stays_with history faults script (HasWrittenNone opened_disk) (unwritten_on opened_disk)
       (unwritten_asked script opened_disk (λ place lane asked t there b. (unwritten_first script place lane asked t none none_purges there b, dooms_first asked t (unpurged script place lane asked none_purges there) b))) [] r.moves world mid r.script_is r.goes
       (record { tasks = no_tasks WritesNoMail; undoomed = none_doomed_first; synced = λ runs. syncs_first opened_disk; kept = λ m. mail_still m opened_disk }) in
-      stays_over (HasWrittenNone opened_disk) (unwritten_on opened_disk) 0 r.turns (as_finished mid) ended asked_disk left_disk asked_faults left_faults r.ends (record { tasks = w.tasks; undoomed = record { tasks = w.undoomed.tasks; files = w.undoomed.files }; synced = w.synced; kept = w.kept })
+      stays_over (HasWrittenNone opened_disk) (unwritten_on opened_disk) r.turns (as_finished mid) ended asked_disk left_disk asked_faults left_faults chain (record { tasks = w.tasks; undoomed = record { tasks = w.undoomed.tasks; files = w.undoomed.files }; synced = w.synced; kept = w.kept })
 
   read_last : has_change script ≡ false → HasOnlyRead opened_disk ended left_disk left_faults
   read_last none =
@@ -141,21 +149,21 @@ module _ {D : Type 0} (history : D → Option History) (faults : D → Faults) (
       stays_with history faults script (HasOnlyRead opened_disk) (reads_on opened_disk)
       (reads_asked script opened_disk (λ place lane asked t there b. (reads_first script place lane asked t none there b, dooms_first asked t (reads_unpurged asked (changes_none script place lane asked none there)) b))) [] r.moves world mid r.script_is r.goes
       (record { tasks = no_tasks OnlyReads; undoomed = none_doomed_first; idle = idle-begins opened_disk; running = r.opened.running }) in
-      stays_over (HasOnlyRead opened_disk) (reads_on opened_disk) 0 r.turns (as_finished mid) ended asked_disk left_disk asked_faults left_faults r.ends (record { tasks = w.tasks; undoomed = record { tasks = w.undoomed.tasks; files = w.undoomed.files }; idle = w.idle; running = w.running })
+      stays_over (HasOnlyRead opened_disk) (reads_on opened_disk) r.turns (as_finished mid) ended asked_disk left_disk asked_faults left_faults chain (record { tasks = w.tasks; undoomed = record { tasks = w.undoomed.tasks; files = w.undoomed.files }; idle = w.idle; running = w.running })
 
   unread_last : has_mail_read script ≡ false → HasReadNoOctets opened_faults ended left_disk left_faults
   unread_last none =
       let w =
       stays_with history faults script (HasReadNoOctets opened_faults) (unread_on opened_faults) (unread_asked script opened_faults (λ place lane asked t there b. unread_first script place lane asked t none there b)) [] r.moves world mid r.script_is r.goes
       (record { tasks = no_tasks ReadsNoOctets; unread = refl }) in
-      stays_over (HasReadNoOctets opened_faults) (unread_on opened_faults) 0 r.turns (as_finished mid) ended asked_disk left_disk asked_faults left_faults r.ends (record { tasks = w.tasks; unread = w.unread })
+      stays_over (HasReadNoOctets opened_faults) (unread_on opened_faults) r.turns (as_finished mid) ended asked_disk left_disk asked_faults left_faults chain (record { tasks = w.tasks; unread = w.unread })
 
   calm_last : has_fetch script ≡ false → HasReadAsTold opened_faults ended left_disk left_faults
   calm_last none =
       let w =
       stays_with history faults script (HasReadAsTold opened_faults) (calm_on opened_faults) (calm_asked script opened_faults (λ place lane asked t there b. answers_first script place lane asked t none there b)) [] r.moves world mid r.script_is r.goes
       (record { tasks = no_tasks AnswersReads; calm = λ unread. refl }) in
-      stays_over (HasReadAsTold opened_faults) (calm_on opened_faults) 0 r.turns (as_finished mid) ended asked_disk left_disk asked_faults left_faults r.ends (record { tasks = w.tasks; calm = w.calm })
+      stays_over (HasReadAsTold opened_faults) (calm_on opened_faults) r.turns (as_finished mid) ended asked_disk left_disk asked_faults left_faults chain (record { tasks = w.tasks; calm = w.calm })
 
   sealed_last : (start : Lists) → LogsShowLists world.store.map (indexes_of world.store.boxes) start → MayRead script start old → HasKeptSealed start script world.store.map opened_disk ended left_disk left_faults
   sealed_last start shows may =
@@ -165,7 +173,7 @@ module _ {D : Type 0} (history : D → Option History) (faults : D → Faults) (
       let w = served_with history faults start script from [] r.moves world mid run [] no_broken r.script_is r.goes finds not_busy (r.begins start shows) in
       let come : map_of run ≡ world.store.map = (r.begins start shows).going.serving.serves.come.come.map_is in
       let kept = w.sealed world.store.map opened_disk (λ number is. subst (λ (n : MapMeaning). is_sealed n number ≡ true) (sym come) is) (kept_begins (sealed_only world.store.map) opened_disk) in
-      stays_over (HasKeptSealed start script world.store.map opened_disk) (sealed_on start script world.store.map opened_disk) 0 r.turns (as_finished mid) ended asked_disk left_disk asked_faults left_faults r.ends
+      stays_over (HasKeptSealed start script world.store.map opened_disk) (sealed_on start script world.store.map opened_disk) r.turns (as_finished mid) ended asked_disk left_disk asked_faults left_faults chain
       (record {
         run = and_events run w.added;
         steps = w.more;
@@ -180,6 +188,7 @@ module _ {D : Type 0} (history : D → Option History) (faults : D → Faults) (
   pub left_of_session : RunLeft script old opened_disk left_disk opened_faults left_faults world.store ended
   left_of_session = record {
     opened = r.opened;
+    reads = r.reads;
     show = r.show;
     since = since_run;
     counts = counted_last;

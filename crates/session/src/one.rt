@@ -9,7 +9,7 @@ ghost use Rattle.request_text.specs.declared.outcome.Outcome.TheVariants as outc
 ghost use Rattle.script_text.specs.Script.{FitsLanes, FitsScript};
 ghost use Rattle.session.specs.OneRequest.{EndsByRequest, IsAnsweredAndTold, IsWaiting};
 
-use attach_detach::{Prepared, prepare};
+use attach_detach::{Prepared, take_apart};
 use disk_model::Disk;
 use lanes::{World, idle_worlds_have_replied, worlds_go_with};
 use mdbox_base::{NoMemory, Refusal, Reply, Request, Sink};
@@ -66,13 +66,13 @@ fn is_stopped(given: &Reply) -> bool
     matches!(given, Reply::Refused(Refusal::Stopped))
 }
 
-/// What a request is given beside: a delivery its message with its attachments taken out, any other nothing.
+/// What a request is given beside: a delivery its message with its attachments taken out, unless it has none; any other nothing.
 fn prepare_message(alloc: Global, asked: &Request) -> Result<Option<Prepared>, NoMemory>
     requires { FitsScript asked.now }
     ensures { IfOk result (HasItsMessage asked.now) }
 {
     match asked {
-        Request::Deliver { message, .. } => Ok(Some(prepare(alloc, message.as_slice())?)),
+        Request::Deliver { message, .. } => take_apart(alloc, message.as_slice()),
         _ => Ok(None),
     }
 }

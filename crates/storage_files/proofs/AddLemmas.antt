@@ -10,10 +10,10 @@ use Rattle.std.proofs.lemmas.List.{length-take, get_or-take}
 use Rattle.std.proofs.lemmas.List.Elements.{All-take, All-append, All-from_get_or}
 use Rattle.disk_model.specs.Disk.{FileState, DiskState, History, EachImage, SameButFor, MayHold, MayLeave, Reaches, IsThere, Keeps, IfTold, IsImage, Between, after, change, written, half_written, synced, overlaid, covers, reading}
 use Rattle.disk_model.specs.declared.name.FileName.{FileName}
-use Rattle.disk_model.proofs.MomentLemmas.{if_told-map, if_told-both, if_told-all}
+use Rattle.disk_model.proofs.MomentLemmas.{if_told-map, if_told-both}
 use Rattle.disk_model.proofs.OneFileLemmas.{IsAlong, Along, along-begins, along-goes_on, same_by_get, change-here}
 use Rattle.disk_model.proofs.ChangeAndSyncLemmas.{CanNow}
-use Rattle.disk_model.proofs.BetweenLemmas.{between-step, between-after, between-if}
+use Rattle.disk_model.proofs.BetweenLemmas.{between-step, between-if}
 use Rattle.disk_model.proofs.FirmLemmas.{at_place, reading_from_there}
 use Rattle.disk_model.proofs.LeavingLemmas.{covers-before, overlaid-end}
 use Rattle.storage_files.specs.OnDisk.{IsAddedTo, IsPieceAdded, IsSyncedFile}
@@ -50,7 +50,7 @@ pub stands-now : (name : FileName) (end : ℕ) (old : Option History) → IfTold
 stands-now name end old images long = if_told-both _ _ _ old (λ disk i l. stands (disk name) end l (i name)) images long
 
 -- below the end, one state leaves what another does
-front_left : (end : ℕ) (f g : FileState) → Stands end f → g.is_there ≡ f.is_there → g.is_name_loose ≡ f.is_name_loose → f.least ≤ g.least
+pub front_left : (end : ℕ) (f g : FileState) → Stands end f → g.is_there ≡ f.is_there → g.is_name_loose ≡ f.is_name_loose → f.least ≤ g.least
     → ((i : ℕ) → i < end → f.is_loose i ≡ false → (g.is_loose i ≡ false) × (slice_get g.octets i ≡ slice_get f.octets i))
     → (left : Option (List ℕ)) → MayLeave g left → MayLeave f (option_map (take end) left)
 front_left end f g s there name least same None (inl gone) = inl (sym there ∙ gone)
@@ -72,7 +72,7 @@ front_left end f g s there name least same (Some o) h =
       are_octets = All-take (λ octet. octet < 256) end o h.are_octets;
     }
 
-end_octets : (end : ℕ) (from : List ℕ) (f : FileState) → Stands end f → overlaid f.octets end from ≡ f.octets ++ from
+pub end_octets : (end : ℕ) (from : List ℕ) (f : FileState) → Stands end f → overlaid f.octets end from ≡ f.octets ++ from
 end_octets end from f s = subst (λ (n : ℕ). overlaid f.octets n from ≡ f.octets ++ from) s.long (overlaid-end f.octets from)
 
 end_same : (end : ℕ) (from : List ℕ) (f : FileState) → Stands end f → (i : ℕ) → i < end → slice_get (overlaid f.octets end from) i ≡ slice_get f.octets i
@@ -81,7 +81,7 @@ end_same end from f s i below =
     ap (λ (o : List ℕ). slice_get o i) (end_octets end from f s)
     ∙ at_place (f.octets ++ from) f.octets i (omega (arith, length-append f.octets from, l, below)) (omega (arith, l, below)) (get_or-append f.octets from 0 i (omega (arith, l, below)))
 
-not_covered : (end n i : ℕ) (f : FileState) → i < end → f.is_loose i ≡ false → (f.is_loose i || covers end n i) ≡ false
+pub not_covered : (end n i : ℕ) (f : FileState) → i < end → f.is_loose i ≡ false → (f.is_loose i || covers end n i) ≡ false
 not_covered end n i f below firm = or_from (f.is_loose i) (covers end n i) firm (covers-before end n i below)
 
 -- what the images have of the file
@@ -103,7 +103,7 @@ add-can name end from (Some old) s =
       there = s.there;
     }
 
--- after both calls
+-- after the call and a sync
 
 added_to : (end : ℕ) (from : List ℕ) (f : FileState) → AreOctets from → Stands end f → (left : Option (List ℕ)) → MayLeave (synced (written end from f)) left → (left ≡ Some (f.octets ++ from)) ⊎ ((left ≡ None) × MayLeave f None)
 added_to end from f are s None (inl gone) = absurd (true≢false (sym s.there ∙ gone))
@@ -131,7 +131,7 @@ added_back end from f are s left (inr (e, gone)) =
     let F : Option (List ℕ) → Type 0 = MayLeave (synced (written end from f)) in
     subst F (sym e) (elim gone [ inl none ↦ absurd (true≢false (sym s.there ∙ none)) | inr loose ↦ inr loose ])
 
-added_file : (end : ℕ) (from : List ℕ) (f : FileState) → AreOctets from → Stands end f → IsAddedTo from f (synced (written end from f))
+pub added_file : (end : ℕ) (from : List ℕ) (f : FileState) → AreOctets from → Stands end f → IsAddedTo from f (synced (written end from f))
 added_file end from f are s = record {
   before = f.octets;
   read = reading_from_there f s.there;
@@ -141,18 +141,6 @@ added_file end from f are s = record {
 
 abbrev IsWritten : FileName → ℕ → List ℕ → DiskState → DiskState → Type 0
 IsWritten name end from a b = b name ≡ written end from (a name)
-
-abbrev IsWrittenSynced : FileName → ℕ → List ℕ → DiskState → DiskState → Type 0
-IsWrittenSynced name end from a b = b name ≡ synced (written end from (a name))
-
-pub added-between : (name : FileName) (end : ℕ) (from : List ℕ) (old mid new : Option History) → AreOctets from → IfTold old (λ disk. Stands end (disk name))
-    → mid ≡ after (change name (written end from)) old → new ≡ after (change name synced) mid → Between (λ a b. IsAddedTo from (a name) (b name)) old new
-added-between name end from old mid new are s is1 is2 =
-    let first : Between (IsWritten name end from) old mid = between-step (IsWritten name end from) (change name (written end from)) old mid is1 (λ disk. change-here name (written end from) disk) in
-    let second : Between (IsWrittenSynced name end from) old new =
-    between-after (IsWritten name end from) (IsWrittenSynced name end from) (λ disk. Unit {0}) (change name synced) old mid new (λ a b w t. change-here name synced b ∙ ap synced w) first (if_told-all _ mid (λ disk. tt)) is2 in
-    between-if (IsWrittenSynced name end from) (λ a b. IsAddedTo from (a name) (b name)) (λ disk. Stands end (disk name)) old new
-    (λ a b w st. let F : FileState → Type 0 = λ f. IsAddedTo from (a name) f in subst F (sym w) (added_file end from (a name) are st)) second s
 
 -- ---- a piece, without a sync
 

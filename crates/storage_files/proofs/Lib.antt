@@ -1,4 +1,5 @@
 pub mod AddLemmas
+pub mod AddingLemmas
 pub mod MakeLemmas
 pub mod RemoveLemmas
 pub mod SearchLemmas

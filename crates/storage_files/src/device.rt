@@ -3,7 +3,7 @@ ghost use Rattle.std.specs.Prelude.{◌≡◌, ◌≤◌, length, take, drop, So
 ghost use Rattle.std.specs.Option.{option_map};
 ghost use Rattle.disk_model.specs.FaultCounts.{NoFault, ChangeFaultCounted, ReadFaultCounted};
 ghost use Rattle.disk_model.specs.Disk.{EachImage, OthersStay, SameButFor, Between, IfTold, IsThere, Keeps, reading, IsIdle};
-ghost use Rattle.storage_files.specs.OnDisk.{FrontStays, IsAddedTo, IsPieceAdded, IsSyncedFile, IsLeftAsBefore, IsNewOrNone, OthersAreNamed, IsLeftOrNone, piece_read};
+ghost use Rattle.storage_files.specs.OnDisk.{FrontStays, IsPieceAdded, IsSyncedFile, IsLeftAsBefore, IsNewOrNone, OthersAreNamed, IsLeftOrNone, piece_read};
 
 use crate::error::DiskFault;
 use disk_model::{Disk, DiskError, FileName};
@@ -21,26 +21,6 @@ pub(crate) fn make_with<D: Disk>(disk: &mut D, name: FileName, text: &[u8]) -> R
     disk.write_at(name, 0, text)?;
     disk.sync(name)?;
     disk.sync_names()?;
-    Ok(())
-}
-
-/// Adds octets at the end of a file, which is there, and syncs it.
-pub(crate) fn add_to<D: Disk>(
-    disk: &mut D,
-    name: FileName,
-    end: u64,
-    octets: &[u8],
-) -> Result<(), DiskFault>
-    requires { IfTold (D.history disk.old) (λ now. option_map length (reading (now name)) ≡ Some end) }
-    ensures any_moment { EachImage (λ _ image. FrontStays name end (D.history disk.old) image × OthersStay name (D.history disk.old) image) (D.history disk.old) (D.history disk.new) }
-    ensures added { OnOk result (Between (λ old new. IsAddedTo octets.now (old name) (new name)) (D.history disk.old) (D.history disk.new)) }
-    ensures others { OnOk result (SameButFor name (D.history disk.old) (D.history disk.new)) }
-    ensures fault { ChangeFaultCounted (IsErr result) (D.faults disk.old) (D.faults disk.new) }
-    ensures unread { (D.faults disk.new).reads ≡ (D.faults disk.old).reads }
-    ensures unfailed { OnOk result (NoFault (D.faults disk.old) (D.faults disk.new)) }
-{
-    disk.write_at(name, end, octets)?;
-    disk.sync(name)?; // from here on a crash leaves the octets
     Ok(())
 }
 

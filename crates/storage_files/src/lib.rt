@@ -6,6 +6,7 @@ pub use file::{FileState, MailFile, Take};
 pub use files::MailFiles;
 pub use laws::files_change_apart;
 
+mod adding;
 mod device;
 mod error;
 mod file;

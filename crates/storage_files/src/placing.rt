@@ -6,7 +6,8 @@ ghost use Rattle.disk_model.specs.declared.name.FileName.TheVariants.{Mail};
 ghost use Rattle.storage_files.specs.Files.{FilesValue, place_begun_in, end_in, is_taken_in, pins_in, changed_in, ending_at, placing_begun, placing_ended, without_file};
 ghost use Rattle.storage_files.specs.OnDisk.{IsAsKnown, FrontStays, IsAddedTo, IsPieceAdded, IsSyncedFile, IsLeftAsBefore, IsNewOrNone, OthersAreNamed, IsLeftOrNone, piece_read};
 
-use crate::device::{add_to, make_with, read_from, remove, sync, write_on};
+use crate::adding::add_texts;
+use crate::device::{make_with, read_from, remove, sync, write_on};
 use crate::error::DiskFault;
 use crate::file::FileChange;
 use crate::files::MailFiles;
@@ -47,17 +48,19 @@ impl MailFiles {
         Ok(())
     }
 
-    /// Adds octets at the end of a file that was taken, syncs it, and answers the offset where they begin. After a fault the
-    /// file isn't used again.
-    pub fn place<D: Disk>(
+    /// Adds three texts at the end of a file that was taken, one behind another and each in pieces from where it lies, syncs
+    /// it, and answers the offset where they begin. After a fault the file isn't used again.
+    pub fn place_texts<D: Disk>(
         &mut self,
         disk: &mut D,
         file: FileNo,
-        octets: &[u8],
+        front: &[u8],
+        body: &[u8],
+        back: &[u8],
     ) -> Result<u32, DiskFault>
         requires taken { is_taken_in file.0 self.old.files ≡ true }
         requires known { IsAsKnown self.old.files file.0 (D.history disk.old) }
-        requires fits { (end : ℕ) × (end_in file.0 self.old.files ≡ Some end) × (end + length octets.now ≤ 4294967295) }
+        requires fits { (end : ℕ) × (end_in file.0 self.old.files ≡ Some end) × (end + length ((front.now ++ body.now) ++ back.now) ≤ 4294967295) }
 
         // At every moment each image has of this file, below its old end, what a crash could leave before, whichever device
         // call fails; and so it has of the other files.
@@ -65,10 +68,10 @@ impl MailFiles {
 
         // After Ok the octets stand at the old end, which is the answer, and a crash leaves them there. No other file has changed.
         ensures offset { IfOk result (λ offset. end_in file.0 self.old.files ≡ Some offset) }
-        ensures added { OnOk result (Between (λ old new. IsAddedTo octets.now (old (Mail file.0)) (new (Mail file.0))) (D.history disk.old) (D.history disk.new)) }
-        ensures held { OnOk result ((text : List ℕ) → IfTold (D.history disk.old) (λ now. Keeps (now (Mail file.0)) text) → IfTold (D.history disk.new) (λ now. Keeps (now (Mail file.0)) (text ++ octets.now))) }
+        ensures added { OnOk result (Between (λ old new. IsAddedTo ((front.now ++ body.now) ++ back.now) (old (Mail file.0)) (new (Mail file.0))) (D.history disk.old) (D.history disk.new)) }
+        ensures held { OnOk result ((text : List ℕ) → IfTold (D.history disk.old) (λ now. Keeps (now (Mail file.0)) text) → IfTold (D.history disk.new) (λ now. Keeps (now (Mail file.0)) (text ++ ((front.now ++ body.now) ++ back.now)))) }
         ensures others { OnOk result (SameButFor (Mail file.0) (D.history disk.old) (D.history disk.new)) }
-        ensures ok { IfOk result (λ offset. self.new ≡ record self.old { files = changed_in file.0 (ending_at (offset + length octets.now)) self.old.files }) }
+        ensures ok { IfOk result (λ offset. self.new ≡ record self.old { files = changed_in file.0 (ending_at (offset + length ((front.now ++ body.now) ++ back.now))) self.old.files }) }
         ensures taken { (number : ℕ) → is_taken_in number self.new.files ≡ is_taken_in number self.old.files }
         ensures still_known { OnOk result ((number : ℕ) → IsAsKnown self.old.files number (D.history disk.old) → IsAsKnown self.new.files number (D.history disk.new)) }
 
@@ -79,8 +82,8 @@ impl MailFiles {
     {
         self.known_facts();
         let end = self.end_of(file).unwrap();
-        add_to(disk, FileName::Mail(file.0), end, octets)?;
-        self.change(file, FileChange::Ends(end + octets.len() as u64));
+        let behind = add_texts(disk, FileName::Mail(file.0), end, front, body, back)?;
+        self.change(file, FileChange::Ends(behind));
         Ok(end as u32)
     }
 

@@ -1,5 +1,5 @@
 // The storage files of a store: who takes which, and what is written to them and read.
-ghost use Rattle.std.specs.Prelude.{◌≡◌, ◌↔◌, ◌≤◌, ◌+◌, ◌||◌, ℕ, List, length, take, drop, max, true, false, Some, None, IfOk, OnOk, OnErr, IsOk, IsErr};
+ghost use Rattle.std.specs.Prelude.{◌≡◌, ◌↔◌, ◌≤◌, ◌+◌, ◌++◌, ◌||◌, ℕ, List, length, take, drop, max, true, false, Some, None, IfOk, OnOk, OnErr, IsOk, IsErr};
 ghost use Rattle.disk_model.specs.Disk.{Between, Grows, IfTold, IsIdle, Keeps, SameButFor, reading};
 ghost use Rattle.disk_model.specs.FaultCounts.{NoFault, ChangeFaultCounted, ReadFaultCounted};
 ghost use Rattle.disk_model.specs.declared.name.FileName.TheVariants.{Mail};
@@ -116,12 +116,18 @@ impl<D: Disk> Store<D> {
         Ok(())
     }
 
-    /// Adds octets at the end of a storage file that was taken, syncs it, and answers the offset where they begin. A change of
-    /// the disk that fails stops the store.
-    pub fn place(&mut self, file: FileNo, octets: &[u8]) -> Result<u32, Stopped>
+    /// Adds three texts at the end of a storage file that was taken, one behind another and each in pieces from where it lies,
+    /// syncs it, and answers the offset where they begin. A change of the disk that fails stops the store.
+    pub fn place_texts(
+        &mut self,
+        file: FileNo,
+        front: &[u8],
+        body: &[u8],
+        back: &[u8],
+    ) -> Result<u32, Stopped>
         requires running { self.old.stopped ≡ false }
         requires taken { is_taken_in file.0 self.old.files.files ≡ true }
-        requires fits { (end : ℕ) × (end_in file.0 self.old.files.files ≡ Some end) × (end + length octets.now ≤ 4294967295) }
+        requires fits { (end : ℕ) × (end_in file.0 self.old.files.files ≡ Some end) × (end + length ((front.now ++ body.now) ++ back.now) ≤ 4294967295) }
 
         // Of a settled disk each image at every moment is safe for its lists, whichever call fails; and after Ok the disk is
         // settled for them again, and of a disk that is settled then a crash leaves the file as it reads.
@@ -133,22 +139,25 @@ impl<D: Disk> Store<D> {
         // After Ok the octets stand at the old end, which is the answer, behind what the file had. They overlap no region, and
         // no GUID names their place.
         ensures offset { IfOk result (λ offset. end_in file.0 self.old.files.files ≡ Some offset) }
-        ensures placed { IfOk result (λ offset. IfTold (D.history self.new.disk) (λ now. EndsWith offset octets.now (now (Mail file.0)))) }
-        ensures added { OnOk result (Between (λ old new. IsAddedTo octets.now (old (Mail file.0)) (new (Mail file.0))) (D.history self.old.disk) (D.history self.new.disk)) }
+        ensures placed { IfOk result (λ offset. IfTold (D.history self.new.disk) (λ now. EndsWith offset ((front.now ++ body.now) ++ back.now) (now (Mail file.0)))) }
+        ensures added { OnOk result (Between (λ old new. IsAddedTo ((front.now ++ body.now) ++ back.now) (old (Mail file.0)) (new (Mail file.0))) (D.history self.old.disk) (D.history self.new.disk)) }
         ensures others { OnOk result (SameButFor (Mail file.0) (D.history self.old.disk) (D.history self.new.disk)) }
-        ensures free { IfOk result (λ offset. IsFree self.old.map file.0 offset (length octets.now)) }
+        ensures free { IfOk result (λ offset. IsFree self.old.map file.0 offset (length ((front.now ++ body.now) ++ back.now))) }
         ensures new_place { IfOk result (λ offset. IsNewPlace self.old.map file.0 offset) }
         ensures stored { OnOk result (KeepsStored (D.history self.old.disk) (D.history self.new.disk)) }
 
-        ensures ok { IfOk result (λ offset. self.new ≡ record self.old { disk = self.new.disk; files = record self.old.files { files = changed_in file.0 (ending_at (offset + length octets.now)) self.old.files.files } }) }
-        ensures ends { IfOk result (λ offset. end_in file.0 self.new.files.files ≡ Some (offset + length octets.now)) }
+        ensures ok { IfOk result (λ offset. self.new ≡ record self.old { disk = self.new.disk; files = record self.old.files { files = changed_in file.0 (ending_at (offset + length ((front.now ++ body.now) ++ back.now))) self.old.files.files } }) }
+        ensures ends { IfOk result (λ offset. end_in file.0 self.new.files.files ≡ Some (offset + length ((front.now ++ body.now) ++ back.now))) }
         ensures taken { (number : ℕ) → is_taken_in number self.new.files.files ≡ is_taken_in number self.old.files.files }
         ensures err { OnErr result (self.new ≡ record self.old { disk = self.new.disk; stopped = true }) }
         ensures grows { Grows (D.history self.old.disk) (D.history self.new.disk) }
         ensures fault { ChangeFaultCounted (IsErr result) (D.faults self.old.disk) (D.faults self.new.disk) }
         ensures unfailed { OnOk result (NoFault (D.faults self.old.disk) (D.faults self.new.disk)) }
     {
-        match self.files.place(&mut self.disk, file, octets) {
+        match self
+            .files
+            .place_texts(&mut self.disk, file, front, body, back)
+        {
             Ok(offset) => Ok(offset),
             Err(_fault) => {
                 self.stopped = true;

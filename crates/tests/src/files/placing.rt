@@ -44,7 +44,7 @@ fn make_and_place(disk: &mut MemDisk, files: &mut MailFiles) -> Result<u32, Disk
     requires known { IsAsKnown files.old.files 1 (Some (told disk.old)) }
 {
     files.make_file(disk, FileNo(1), HEADER)?;
-    files.place(disk, FileNo(1), REGION)
+    files.place_texts(disk, FileNo(1), b"", REGION, b"")
 }
 
 /// What a crash leaves of the file when so many of the six calls had run: made, written, synced, its name synced; added to,

@@ -1,4 +1,4 @@
-use Rattle.mail_save.proofs.Common.{rules, ◌≡◌, ◌<◌, ◌^◌, ◌∙◌, ap, sym, subst, refl, arith, ℕ, List, Err, length, IsName, InstRow, AreHeld, due_at, MovesHolds, holds_of, save_amounts, HoldsFile, TakesWithHeader, LetsGo, TakesNone, Saves}
+use Rattle.mail_save.proofs.Common.{rules, ◌<◌, ◌^◌, ◌∙◌, ap, sym, subst, refl, arith, ℕ, List, Err, length, IsName, InstRow, AreHeld, due_at, MovesHolds, holds_of, save_amounts, HoldsFile, TakesWithHeader, LetsGo, TakesNone, Saves}
 use Rattle.mdbox_base.specs.declared.progress.Progress.TheVariants as progress
 use Rattle.mdbox_base.specs.declared.replies.Reply.TheVariants as reply
 use Rattle.mail_save.proofs.FaultLemmas.{change_faults}
@@ -14,20 +14,17 @@ use Rattle.mail_save.proofs.TakingLemmas.{takes_as, untaken_instances, untaken_u
 use Rattle.mail_save.specs.declared.task.SaveStage.TheVariants as stage
 use Rattle.mail_save.proofs.task.taking.Goals as goal
 
-pub overflow_cast-size : goal.overflow_cast-size
-overflow_cast-size g c =
+pub length-size-requires : goal.length-size-requires
+length-size-requires g c =
     let timed : c.args.time < 2 ^ 64 = search rules in
-    let short = region_short c.args.name.now c.args.time c.args.parts c.args.store.now _ (subst IsName c.as_octets-name.ensures.same c.as_octets-name.ensures.name) timed c.requires.left in
-    let least = short.0 in
-    let most = short.1 in
-    let is = ap length c.region.ensures in
-    omega (arith, most, is)
+    let most = (region_short c.args.name.now c.args.time c.args.parts c.args.store.now _ (subst IsName c.as_octets-name.ensures.same c.as_octets-name.ensures.name) timed c.requires.left).1 in
+    omega (arith, most)
 
 pub take_file-requires-clause-size : goal.take_file-requires-clause-size
 take_file-requires-clause-size g c =
     let timed : c.args.time < 2 ^ 64 = search rules in
     let most = (region_short c.args.name.now c.args.time c.args.parts c.args.store.now _ (subst IsName c.as_octets-name.ensures.same c.as_octets-name.ensures.name) timed c.requires.left).1 in
-    let is = ap length c.region.ensures in
+    let is = c.length-size.ensures in
     let short = header_short c.args.name.now c.args.time c.args.parts c.args.store.now _ timed c.requires.left in
     let header = ap length c.as_slice.ensures in
     omega (arith, most, is, short, header)
@@ -45,7 +42,7 @@ returns-in-Ok g c = λ size.
     let before = g.D.Disk.history old.disk in
     let after = g.D.Disk.history new.disk in
     let runs = is_false new.stopped (λ e. ok_apart _ _ (o.stopped.1 e)) in
-    let long : length c.region.result.now ≡ length c.args.parts.laid.region = ap length c.region.ensures in
+    let long = c.length-size.ensures in
     let same = ap (λ v. v.instances) o.same in
     let keeps = taken_keeps c.as_slice.result.now c.in-Ok.file.0 old new before after same (ap (λ v. v.map) o.same) o.mail in
     subst (λ l. Saves (stage.Taking c.args.parts) l.next c.args.name.now c.args.time size l.answer l.did old new before after (g.D.Disk.faults old.disk) (g.D.Disk.faults new.disk)) (sym c.goes_on.ensures) (record {
@@ -76,7 +73,7 @@ returns-in-Err g c = λ size.
     let old = c.args.store.now in
     let left = c.take_file.new.store in
     let new = c.let_go_all.new.store in
-    let long : length c.region.result.now ≡ length c.args.parts.laid.region = ap length c.region.ensures in
+    let long = c.length-size.ensures in
     let none : TakesNone (length c.args.parts.laid.region) c.in-Err.why old left = subst (λ (n : ℕ). TakesNone n c.in-Err.why old left) long o.none in
     let same : LetsGo c.args.parts.rows left new = subst (λ (rows : List InstRow). LetsGo rows left new) c.as_slice-in-Err.ensures c.let_go_all.ensures.same in
     let kept = untaken_instances _ c.in-Err.why old left none in

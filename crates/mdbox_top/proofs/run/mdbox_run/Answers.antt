@@ -32,8 +32,8 @@ returns-in-Err-NoMemory-clause-unknown g c = λ none.
     absurd (none found.0 found.2.says)
 
 pub returns-in-Ok-clause-disk_fault : goal.returns-in-Ok-clause-disk_fault
-returns-in-Ok-clause-disk_fault g c = λ tells. c.mdbox_alone.ensures.disk_fault (tells c.in-Ok.command c.in-Ok.ensures.says.says)
+returns-in-Ok-clause-disk_fault g c = λ tells. c.run_in_threads.ensures.disk_fault (tells c.in-Ok.command c.in-Ok.ensures.says.says)
 
 pub returns-in-Ok-clause-usage : goal.returns-in-Ok-clause-usage
 returns-in-Ok-clause-usage g c =
-    (λ two said says. known_words _ c.in-Ok.command _ _ _ _ _ _ _ _ _ _ _ _ _ _ c.mdbox_alone.ensures.run two, λ none. absurd (none c.in-Ok.command c.in-Ok.ensures.says.says))
+    (λ two said says. known_words _ c.in-Ok.command _ _ _ _ _ _ _ _ _ _ _ _ _ _ c.run_in_threads.ensures.run two, λ none. absurd (none c.in-Ok.command c.in-Ok.ensures.says.says))

@@ -1,6 +1,6 @@
 use Rattle.std.proofs.Common.{◌∙◌, ap, subst}
 use Rattle.script_run.proofs.DoneLemmas.{EndedParts, no_task}
-use Rattle.script_run.proofs.RunBeginsLemmas.{OpenedNow}
+use Rattle.script_run.specs.OpenScript.{IsStoreOpened}
 use Rattle.script_run.proofs.StillLemmas.{unopened_still}
 use Rattle.store_core.specs.Running.{IsStore}
 use Rattle.request_text.proofs.OrderLemmas.{told_in_order}
@@ -30,7 +30,6 @@ of-world-requires-clause-unused g c =
             carried = o.carried (λ f. absurd f);
             swept = (o.swept.0, o.swept.2);
             stays = o.mail_stays;
-            reads = g.met.D.Disk.reads_image c.in-Ok-open_store.store.disk;
             closed_well = o.closed_well;
           }) c.facts.ensures.ids o.made,
       o.state.1,
@@ -50,7 +49,7 @@ returns-in-Ok-open_store-clause-done g c =
     let faults = g.D.Disk.faults in
     let gone = c.serve_all-ended.new.world in
     let ended = c.finish.new.self in
-    let opened : OpenedNow (history c.args.disk) (history s.disk) s = record {
+    let opened : IsStoreOpened (history c.args.disk) (history s.disk) s = record {
       opened = o.opened;
       store = c.facts.ensures.store;
       known = c.facts.ensures.instances;
@@ -65,12 +64,11 @@ returns-in-Ok-open_store-clause-done g c =
       carried = o.carried (λ f. absurd f);
       swept = (o.swept.0, o.swept.2);
       stays = o.mail_stays;
-      reads = g.met.D.Disk.reads_image s.disk;
       closed_well = o.closed_well;
     } in
     let kept = c.worlds_go_on.ensures.keeps c.finish.ensures.goes.0 gone ended _ _ _ _ c.finish.ensures.goes.1 in
     let later = subst (λ (p : EndedParts _). IsStore (history p.0.disk) p.0) c.into_parts-store.ensures.kept.0 c.facts-in-Ok-open_store.ensures.store in
-    let end = session_finished history faults (history c.args.disk) c.in-Ok.parts s c.of-world.result gone ended c.finish.ensures.goes.0 opened c.listings_are_shown.ensures.logs c.in-Ok.ensures
+    let end = session_finished history faults (history c.args.disk) c.in-Ok.parts s c.of-world.result gone ended c.finish.ensures.goes.0 opened g.met.D.Disk.reads_image c.listings_are_shown.ensures.logs c.in-Ok.ensures
     (no_task (history c.args.disk) (history s.disk) s opened c.facts.ensures.ids o.made) c.lanes_begin.ensures c.worlds_begin.ensures c.lanes_end.ensures c.of-world.ensures c.finish.ensures.goes.1 kept
     (c.idle_worlds_have_replied.ensures ended _ c.known_facts.ensures c.finish.ensures.idle) c.finish.ensures.idle later c.known_facts.ensures.short in
     let done = gone_done history faults (history c.args.disk) c.of-world.result gone ended _ _ _ _ end told_in_order c.serve_all-ended.result c.serve_all-ended.ensures.gone in

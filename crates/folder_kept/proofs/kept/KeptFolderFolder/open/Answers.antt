@@ -1,5 +1,5 @@
 use Rattle.std.proofs.Common.{◌≡◌, Option, IfSome, sym, subst}
-use Rattle.std.specs.Rc.{rc_value}
+use Rattle.std.specs.Arc.{arc_value}
 use Rattle.folder_model.specs.System.{PlainFile}
 use Rattle.folder_model.specs.Calls.{Modelled, IfSound, kind_of_node}
 use Rattle.folder_kept.specs.Open.{IsKeptAt, IsOpenFor}
@@ -9,8 +9,8 @@ use Rattle.folder_kept.proofs.kept.KeptFolderFolder.open.Goals as goal
 pub returns-in-Some-clause-file : goal.returns-in-Some-clause-file
 returns-in-Some-clause-file g c =
     let self = c.args.self.now in
-    let F : Option _ → Type 0 = λ found. IfSome found (λ kept. IsKeptAt c.args.path.now (rc_value kept.file) self.files.files.items) in
-    open_number g.F.Folder.number (g.F.Folder.modelled self.folder) c.args.path.now (rc_value c.in-Some.file.file) self.files.files.items self.kept (subst F c.in-Some.is c.in_ok-file.ensures.found)
+    let F : Option _ → Type 0 = λ found. IfSome found (λ kept. IsKeptAt c.args.path.now (arc_value kept.file) self.files.files.items) in
+    open_number g.F.Folder.number (g.F.Folder.modelled self.folder) c.args.path.now (arc_value c.in-Some.file.file) self.files.files.items self.kept (subst F c.in-Some.is c.in_ok-file.ensures.found)
 
 pub invariant_of-self : goal.invariant_of-self
 invariant_of-self g c =

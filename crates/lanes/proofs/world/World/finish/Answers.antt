@@ -18,7 +18,7 @@ pub loop-lane-preserved : goal.loop-lane-preserved
 loop-lane-preserved g c =
     let i = c.loop-lane.invariant in
     let busy = c.in-Some.ensures.some in
-    let e = finishing c.in-Some.lane c.loop-lane.self c.work.new.self _ _ _ _ busy.is_lane.0 c.work.ensures.works c.known_facts.ensures in record {
+    let e = finishing c.in-Some.lane c.loop-lane.self c.work.new.self _ _ _ _ busy.is_lane.0 c.work.ensures.works c.known_facts.ensures.clock c.known_facts.ensures.short in record {
       lanes = i.lanes ++ c.in-Some.lane ∷ [];
       goes = rounds_more 0 c.in-Some.lane i.lanes (as_finished c.args.self.now) (as_finished c.loop-lane.self) (as_finished c.work.new.self) _ _ _ _ _ _ i.goes (subst (λ (n : ℕ). IsNextBusy n c.in-Some.lane c.loop-lane.self.rows) i.last busy) e.0 e.1;
       last = sym (last_more 0 c.in-Some.lane i.lanes);

@@ -1,0 +1,9 @@
+mod DealLemmas
+mod JoinLemmas
+mod PlaceLemmas
+mod SeatLemmas
+mod SoundLemmas
+mod SumLemmas
+mod ToldLemmas
+mod TraceLemmas
+mod TurnLemmas

@@ -1,0 +1,3 @@
+pub mod LockRule
+pub mod LockSteps
+pub mod Seats

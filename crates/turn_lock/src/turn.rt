@@ -1,0 +1,75 @@
+// How a seat takes its turn, and gives it back.
+ghost use Rattle.std.specs.Prelude.{◌≡◌, ◌<◌, ◌≤◌};
+ghost use Rattle.turn_lock.specs.LockRule.{StartsWith};
+ghost use Rattle.turn_lock.specs.Seats.{IsAtWork, IsFreeSeat, IsOneTurnAtMost, IsUnder, StaysUnder, found_by, seen_by};
+
+use crate::charter::Charter;
+use crate::lock::{TurnLock, TurnSeat};
+use crate::steps::{Call, Draw, End, Look};
+use std::sync::Wait;
+
+/// The word that counts tickets.
+const DRAWN: usize = 0;
+
+/// The word that counts the turns that have ended, which is the ticket whose turn it is.
+const ENDED: usize = 1;
+
+/// The first of the words that seats sleep on. There are as many as there may be seats, so no two that wait have the same.
+const SLEEPS: usize = 2;
+
+/// The slot of the world.
+const WORLD: usize = 0;
+
+impl<W: Charter> TurnLock<W> {
+    /// Waits for the seat's turn, and takes the world.
+    pub fn take<R: Wait>(&self, rt: &R, seat: &mut TurnSeat<W>) -> W
+        requires free { IsFreeSeat self.now seat.old }
+        ensures turn { IsAtWork self.now seat.new × (found_by seat.new ≡ W.trace result) }
+        ensures charter { IsUnder (W.charter result) (W.finished result) seat.old }
+        ensures trace { StartsWith (W.trace result) (seen_by seat.old) }
+        ensures same { StaysUnder seat.old seat.new }
+    {
+        let table = &self.table.shared;
+        let ticket = table.fetch_add::<Draw>(&mut seat.seat, DRAWN, 1);
+        let sleeps = sleeping_word(ticket);
+        for _ in rt.forever() {
+            let calls = table.peek(sleeps);
+            let ended = table.load::<Look<W>>(&mut seat.seat, ENDED);
+            if ended == ticket {
+                let Some(world) = table.exchange(&mut seat.seat, WORLD, None) else {
+                    unreachable!()
+                };
+                return world;
+            }
+            table.park(rt, sleeps, (calls & 0xffff_ffff) as u32);
+        }
+        unreachable!()
+    }
+
+    /// Gives the world back, and ends the turn.
+    pub fn give(&self, seat: &mut TurnSeat<W>, world: W)
+        requires turn { IsAtWork self.now seat.old }
+        requires charter { IsUnder (W.charter world) (W.finished world) seat.old }
+        requires trace { IsOneTurnAtMost (found_by seat.old) (W.trace world) }
+        ensures free { IsFreeSeat self.now seat.new }
+        ensures seen { seen_by seat.new ≡ W.trace world }
+        ensures same { StaysUnder seat.old seat.new }
+    {
+        let table = &self.table.shared;
+        match table.exchange(&mut seat.seat, WORLD, Some(world)) {
+            None => {}
+            Some(_) => unreachable!(),
+        }
+        let ticket = table.fetch_add::<End<W>>(&mut seat.seat, ENDED, 1);
+        let sleeps = sleeping_word(ticket.wrapping_add(1));
+        table.fetch_add::<Call>(&mut seat.seat, sleeps, 1);
+        table.wake_one(sleeps);
+    }
+}
+
+/// The word that a seat with this ticket sleeps on.
+fn sleeping_word(ticket: u64) -> usize
+    ensures { (2 ≤ result) × (result < 66) }
+{
+    SLEEPS + (ticket % 64) as usize
+}
