@@ -77,6 +77,7 @@ fn play<R: Threads + Wait + Sync>(
     if pause.was_late() {
         return Err(Wrong::Late);
     }
+    must(pause.is_done(), "a lane wasn't given its turns")?;
     let Ok(text) = str::from_utf8(ran.printed.as_slice()) else {
         return Err(Wrong::Differs("no text"));
     };

@@ -22,7 +22,7 @@ pub const LANES: u32 = 4;
 struct Watched {
     rt: HostRuntime,
     number: AtomicU64,
-    /// How many workers didn't wait for it to the end.
+    /// 1 if a worker didn't wait for it to the end.
     late: AtomicU64,
 }
 
@@ -39,10 +39,14 @@ impl Watched {
         self.number.store(number, Ordering::SeqCst);
     }
 
+    fn is(&self, number: u64) -> bool {
+        self.number.load(Ordering::SeqCst) == number
+    }
+
     /// Waits until the number is this.
     fn wait(&self, number: u64) {
         for look in 0..MOST_LOOKS {
-            if self.number.load(Ordering::SeqCst) == number {
+            if self.is(number) {
                 return;
             }
             if look % BUSY_LOOKS == 0 {
@@ -79,6 +83,11 @@ impl Between {
 
     pub fn was_late(&self) -> bool {
         self.stands.was_late() || self.replied.was_late()
+    }
+
+    /// Whether each lane came to the turn before which it is held.
+    pub fn was_met(&self) -> bool {
+        self.stands.is(1) && self.replied.is(1)
     }
 }
 
@@ -128,6 +137,11 @@ impl Ordered {
 
     pub fn was_late(&self) -> bool {
         self.next.was_late()
+    }
+
+    /// Whether each lane has had all its turns.
+    pub fn is_done(&self) -> bool {
+        self.left.load(Ordering::SeqCst) == 0
     }
 
     /// Lets one of the lanes that have turns left go on. Nobody else does, since all others wait.

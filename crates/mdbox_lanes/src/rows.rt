@@ -70,6 +70,7 @@ pub fn fetch_beside_purge<R: Threads + Wait + Sync>(
     if pause.was_late() {
         return Err(Wrong::Late);
     }
+    must(pause.was_met(), "the lanes weren't held back")?;
     must(status == 0, "a request is refused")?;
     let Ok(text) = str::from_utf8(printed.as_slice()) else {
         return Err(Wrong::Differs("no text"));
