@@ -79,7 +79,7 @@ half_left : (end at n : ℕ) (octets : List ℕ) (f g : FileState) → IsAddedOn
 half_left end at n octets f g h is left may =
     let least = h.least in
     front_left end f (half_written at n g) (first_stands end octets f g h) h.still_there h.still_named (omega (arith, least))
-        (λ i below firm. (not_covered at n i g (omega (arith, is, below)) (h.firm i below firm), same_front end octets f g h i below)) left may
+    (λ i below firm. (not_covered at n i g (omega (arith, is, below)) (h.firm i below firm), same_front end octets f g h i below)) left may
 
 -- ---- the disk
 
@@ -221,8 +221,7 @@ pub all_added : (name : FileName) (at : ℕ) (octets : List ℕ) (old : Option H
     × ((from : ℕ) (before : List ℕ) (first : Option History) → AreAddedOn name from before first old → at ≡ from + length before → AreAddedOn name from (before ++ octets) first now)
 all_added name at octets old end rest now h none =
     let empty : rest ≡ [] = nil_from_length rest none in
-    let all : octets ≡ h.done = h.cut ∙ (ap (λ (xs : List ℕ). h.done ++ xs) empty ∙ append-nil h.done) in
-    (
+    let all : octets ≡ h.done = h.cut ∙ (ap (λ (xs : List ℕ). h.done ++ xs) empty ∙ append-nil h.done) in (
       h.ends ∙ ap (λ (xs : List ℕ). at + length xs) (sym all),
       λ from before first begun is. subst (λ (xs : List ℕ). AreAddedOn name from (before ++ xs) first now) (sym all) (h.added from before first begun is),
     )

@@ -66,7 +66,12 @@ fn write_pieces<D: Disk>(
 }
 
 /// Adds one piece behind those that were added, without a sync.
-fn write_next<D: Disk>(disk: &mut D, name: FileName, at: u64, octets: &[u8]) -> Result<(), DiskFault>
+fn write_next<D: Disk>(
+    disk: &mut D,
+    name: FileName,
+    at: u64,
+    octets: &[u8],
+) -> Result<(), DiskFault>
     requires begun { (end : ℕ) × (added : List ℕ) × (first : Option History) × AreAddedOn name end added first (D.history disk.old) × (at ≡ end + length added) }
     ensures any_moment { (end : ℕ) (added : List ℕ) (first : Option History) → AreAddedOn name end added first (D.history disk.old) → at ≡ end + length added → KeepsFront name end first (D.history disk.new) }
     ensures added { OnOk result ((end : ℕ) (added : List ℕ) (first : Option History) → AreAddedOn name end added first (D.history disk.old) → at ≡ end + length added → AreAddedOn name end (added ++ octets.now) first (D.history disk.new)) }
