@@ -2,6 +2,7 @@
 //! store afterwards.
 #![tactic(auto)]
 
+use lock::one_turn;
 use messages::prepare_together;
 use orders::{Counted, play_orders};
 use rows::{fetch_beside_purge, numbers_of_exercise};
@@ -12,6 +13,7 @@ use std::thread::Threads;
 use wrong::Wrong;
 
 mod lists;
+mod lock;
 mod messages;
 mod orders;
 mod pauses;
@@ -36,6 +38,10 @@ fn tell<R: Threads + Wait + Sync>(rt: &R, host: HostRuntime) -> io::Result<()> {
     match prepare_together(rt, host.alloc()) {
         Ok(()) => println!(host; "messages are prepared in threads")?,
         Err(wrong) => println!(host; "messages prepared in threads: {wrong}")?,
+    }
+    match one_turn(rt, host.alloc()) {
+        Ok(()) => println!(host; "a turn is taken, and its trace comes back")?,
+        Err(wrong) => println!(host; "a turn: {wrong}")?,
     }
     match fetch_beside_purge(rt, host) {
         Ok(()) => println!(host; "a fetch goes on beside a purge")?,
