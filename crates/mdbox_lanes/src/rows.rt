@@ -3,6 +3,7 @@ use crate::pauses::Between;
 use crate::printed::printed_at;
 use crate::runs::{Ran, new_store, run_script, run_words};
 use crate::wrong::{Wrong, must};
+use disk_mem::MemDisk;
 use disk_model::{Disk, DiskError, FileName};
 use mdbox_threads::NoPause;
 use std::alloc::Global;
@@ -27,6 +28,21 @@ pub fn numbers_of_exercise<R: Threads + Wait + Sync>(
     Ok(String::from_str(alloc, text.trim_end())?)
 }
 
+/// A store with a message of these octets, and with another that is gone from its mailbox.
+fn store_with<R: Threads + Wait + Sync>(
+    rt: &R,
+    alloc: Global,
+    message: &[u8],
+) -> Result<MemDisk, Wrong> {
+    let disk = new_store(rt, alloc, &NoPause)?;
+    let words = ["deliver", "INBOX"];
+    let ran = run_words(rt, alloc, disk, &words, message, &NoPause)?;
+    let ran = run_words(rt, alloc, ran.disk, &words, b"Hello", &NoPause)?;
+    let words = ["expunge", "INBOX", "2"];
+    let ran = run_words(rt, alloc, ran.disk, &words, b"", &NoPause)?;
+    Ok(ran.disk)
+}
+
 /// A message of 200,000 octets is fetched in pieces, and between two of them its storage file is purged, since another message is gone:
 /// the fetch gives the whole message, and its last event removes the file.
 pub fn fetch_beside_purge<R: Threads + Wait + Sync>(
@@ -34,39 +50,15 @@ pub fn fetch_beside_purge<R: Threads + Wait + Sync>(
     host: HostRuntime,
 ) -> Result<(), Wrong> {
     let alloc = host.alloc();
-    let disk = new_store(rt, alloc, &NoPause)?;
     let large = vec![in alloc; b'a'; LARGE]?;
-    let ran = run_words(
-        rt,
-        alloc,
-        disk,
-        &["deliver", "INBOX"],
-        large.as_slice(),
-        &NoPause,
-    )?;
-    let ran = run_words(
-        rt,
-        alloc,
-        ran.disk,
-        &["deliver", "INBOX"],
-        b"Hello",
-        &NoPause,
-    )?;
-    let ran = run_words(
-        rt,
-        alloc,
-        ran.disk,
-        &["expunge", "INBOX", "2"],
-        b"",
-        &NoPause,
-    )?;
+    let disk = store_with(rt, alloc, large.as_slice())?;
     let pause = Between::of(host);
     let script = b"1 fetch 5:INBOX 1\n2 purge\n";
     let Ran {
         mut disk,
         printed,
         status,
-    } = run_script(rt, alloc, ran.disk, "2", script, &pause)?;
+    } = run_script(rt, alloc, disk, "2", script, &pause)?;
     if pause.was_late() {
         return Err(Wrong::Late);
     }
