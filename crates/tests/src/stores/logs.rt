@@ -35,7 +35,7 @@ pub const BOX_HEAD: LogHead = LogHead {
 /// A log with these entries: its head, and before each record an open gate, with a closed one at the end.
 pub fn log_octets(alloc: Global, head: LogHead, entries: &[&[u8]]) -> Result<Vec<u8>, NoMemory> {
     let mut octets = b"MDBXLOG".to_vec(alloc)?;
-    octets.push(if head.version == 2 { b'2' } else { b'1' })?;
+    octets.push(head.version.wrapping_add(b'0'))?;
     octets.extend_from_slice(&head.store.0)?;
     octets.push(match head.kind {
         LogKind::Root => b'R',
