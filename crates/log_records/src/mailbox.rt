@@ -84,11 +84,7 @@ pub fn push_box_entry(alloc: Global, out: &mut Octets, entry: &BoxEntry) -> Resu
 }
 
 /// The entry of a log of this version that the octets are. None if and only if they aren't one. Only keywords take memory.
-pub fn read_box_entry(
-    alloc: Global,
-    text: &[u8],
-    version: u8,
-) -> Result<Option<BoxEntry>, NoMemory>
+pub fn read_box_entry(alloc: Global, text: &[u8], version: u8) -> Result<Option<BoxEntry>, NoMemory>
     requires { (version ≡ 1) ⊎ (version ≡ 2) }
     ensures { MatchResult result (λ entry. MatchOption entry ((other : BoxEntry) → IsBoxText version text.now other → ⊥) (IsBoxText version text.now)) (λ _. MayHaveWords version text.now) }
 {
