@@ -1,10 +1,7 @@
 -- The logs of a rebuilt store's mailboxes, and what they list.
 use Rattle.std.specs.Prelude.{◌≡◌, ◌≤◌, ◌<◌, ◌+◌, ◌^◌, ◌==◌, max, ℕ, Bool, true, false, cond, List, [], ◌∷◌, ◌++◌, length, map, filter, find, count_by, refl, Some, All}
-use Rattle.std.specs.Cmp.Lexicographic.{slice_cmp}
 use Rattle.std.specs.List.{AllByRecursion}
-use Rattle.std.specs.Ordering.{nat_cmp}
 use Rattle.std.specs.Str.{bytes_eq}
-use Rattle.std.specs.declared.cmp.Ordering.TheVariants.{Less}
 use Rattle.std.proofs.Common.{sym, ◌∙◌, ap, subst, arith, append_assoc, append-nil, length-append}
 use Rattle.std.proofs.lemmas.Bool.{eq-eqb, ne_eqb}
 use Rattle.std.proofs.lemmas.List.{length-map}
@@ -12,7 +9,6 @@ use Rattle.std.proofs.lemmas.List.Sums.{sum_by-cons}
 use Rattle.std.proofs.lemmas.List.Elements.{All-nil, All-cons, All-head, All-tail, All-weaker, All-filter}
 use Rattle.disk_model.specs.Disk.{Files}
 use Rattle.disk_model.specs.declared.name.FileName.TheVariants as file
-use Rattle.mdbox_base.specs.Keywords.{IsKeyword, AreWords}
 use Rattle.mdbox_base.specs.declared.entries.BoxEntry.{BoxEntry}
 use Rattle.mdbox_base.specs.declared.entries.BoxEntry.TheVariants as box
 use Rattle.mdbox_base.specs.declared.entries.InstRow.{InstRow}
@@ -21,7 +17,7 @@ use Rattle.model_meaning.specs.BoxMeaning.{LogRow, BoxMeaning, AllBoxFit, rows_a
 use Rattle.model_meaning.specs.MapMeaning.{MapRecord, MapMeaning, record_at}
 use Rattle.model_meaning.proofs.AppliedLemmas.{rows_by_added}
 use Rattle.model_meaning.proofs.BoxLemmas.{box_more}
-use Rattle.model_octets.proofs.PairLemmas.{pairs_nil}
+use Rattle.model_meaning.proofs.WordLemmas.{no_words}
 use Rattle.model_store.specs.Stands.{HasInstances, StoresMessage, AreListed, HasBox, IsMailbox, AreMailboxes}
 use Rattle.model_rebuild.proofs.MapFitLemmas.{boxes_from, records_from}
 use Rattle.model_rebuild.specs.RebuiltLists.{listed_from, sent_to, rebuilt_mailbox, mailboxes_from}
@@ -41,9 +37,6 @@ row_for uid t = record { uid = uid; flags = 0; time = t.message.time; size = len
 abbrev pub rows_from : ℕ → List MappedMessage → List LogRow
 rows_from uid [] = []
 rows_from uid (t ∷ rest) = row_for uid t ∷ rows_from (uid + 1) rest
-
-no_words : AreWords []
-no_words = record { few = omega arith; each = All-nil IsKeyword; rising = pairs_nil (λ a b. slice_cmp nat_cmp a b ≡ Less) }
 
 -- a message that can be added
 pub record CanBeAdded (t : MappedMessage) : Type 0 where
