@@ -70,7 +70,7 @@ fn read_box<D: Disk>(
     };
     let mut index = BoxIndex::empty(alloc)?;
     let (log, text) = read_log(alloc, disk, name, head, &mut index)?;
-    if let Some(place) = first_dangling(map, &index, &text)? {
+    if let Some(place) = first_dangling(alloc, map, &index, &text)? {
         return Err(CheckError::Damaged(name, place));
     }
     Ok(CheckedBox { log, index })
