@@ -106,7 +106,8 @@ fn make_logs<D: Disk>(
 }
 
 fn head_of(store: StoreId, kind: LogKind, number: u32, generation: u32) -> LogHead
-    ensures { result ≡ head_of store.0 kind number generation }
+    ensures head { result ≡ head_of store.0 kind number generation }
+    ensures version { IsVersionOf result.kind result.version }
 {
     LogHead {
         version: kind.version(),
