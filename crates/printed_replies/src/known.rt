@@ -15,10 +15,18 @@ fn known_uid(uid: Uid)
     ensures { uid.0 < 2 ^ 64 }
 {}
 
-fn known_row(row: ListRow)
-    ensures { RowHasWords row }
+fn known_numbers(size: u32, time: u64)
+    ensures { (size < 2 ^ 64) × (time < 2 ^ 64) }
+{}
+
+fn known_row(row: &ListRow)
+    ensures { RowHasWords row.now }
 {
+    known_uid(row.uid);
+    let _flags = row.flags.bits();
+    known_numbers(row.size, row.time);
     known_octets(&row.guid.0);
+    let _words = row.words.as_slice();
 }
 
 fn known_refusal(refusal: Refusal)
@@ -37,11 +45,11 @@ fn known_rows(rows: &[ListRow])
     ensures { All RowHasWords rows.now }
 {
     for row in rows {
-        known_row(*row);
+        known_row(row);
     }
 }
 
-/// The numbers and lengths of a reply are below 2 ^ 64, and a GUID has octets.
+/// The numbers and lengths of a reply are below 2 ^ 64, a GUID has octets, and keywords are those of a message.
 pub fn known_words(reply: &Reply)
     ensures { ReplyHasWords reply.now }
 {

@@ -9,7 +9,7 @@ use Rattle.model_store.specs.Opening.{AreBoxEntries, HasItsRecord, IsDangling}
 
 -- the UID of the message that an entry adds
 abbrev pub added_uid : BoxEntry → Option ℕ
-added_uid (box.A uid flags time size map_uid guid) = Some uid.0
+added_uid (box.A uid flags time size map_uid guid words) = Some uid.0
 added_uid entry = None
 
 -- a message with this UID is listed and has no record of its GUID
@@ -25,14 +25,14 @@ HasRecordAt m b uid = (row : LogRow) → row_at b uid ≡ Some row → HasItsRec
 -- the text is an entry that adds a message of the first kind
 pub record AddsDangling (m : MapMeaning) (b : BoxMeaning) (text : List ℕ) : Type 0 where
   pub entry : BoxEntry
-  pub is : IsBoxText text entry
+  pub is : IsBoxText 2 text entry
   pub uid : ℕ
   pub added : added_uid entry ≡ Some uid
   pub lacks : LacksRecordAt m b uid
 
 -- each message that an entry with this text adds is of the second kind
 abbrev pub AddsNoDangling : MapMeaning → BoxMeaning → List ℕ → Type 0
-AddsNoDangling m b text = (entry : BoxEntry) (uid : ℕ) → IsBoxText text entry → added_uid entry ≡ Some uid → HasRecordAt m b uid
+AddsNoDangling m b text = (entry : BoxEntry) (uid : ℕ) → IsBoxText 2 text entry → added_uid entry ≡ Some uid → HasRecordAt m b uid
 
 -- of the entries with these texts and this meaning, the record at this place is the first that adds such a message
 abbrev pub IsFirstDangling : MapMeaning → BoxMeaning → List (List ℕ) → ℕ → Type 0

@@ -7,14 +7,17 @@ ghost use Rattle.box_index.specs.Row.{row_of};
 ghost use Rattle.store_checks.specs.Replays.{IsBoxReplay};
 ghost use Rattle.store_checks.specs.Dangling.{added_uid, LacksRecordAt, HasRecordAt, AddsDangling, AddsNoDangling, IsFirstDangling};
 
+use crate::replay::BOX_VERSION;
 use box_index::{BoxIndex, BoxRow};
 use gate_log::LogText;
 use log_records::read_box_entry;
 use map_index::MapIndex;
 use mdbox_base::{BoxEntry, NoMemory, Uid};
+use std::alloc::Global;
 
 /// Where the record stands that adds the first listed message without a record of its GUID. None where each has one.
 pub fn first_dangling(
+    alloc: Global,
     map: &MapIndex,
     index: &BoxIndex,
     text: &LogText,
@@ -29,7 +32,7 @@ pub fn first_dangling(
     }
     let mut entries = text.entries();
     while let Some((place, entry)) = entries.next_entry() {
-        if adds_dangling(map, index, entry)? {
+        if adds_dangling(alloc, map, index, entry)? {
             return Ok(Some(place));
         }
     }
@@ -41,7 +44,7 @@ fn each_has_record(map: &MapIndex, index: &BoxIndex) -> bool
     ensures { IsTrue result ↔ All (HasItsRecord map.now.meaning) index.now.meaning.rows }
 {
     for row in index.rows() {
-        if !has_record(map, &row) {
+        if !has_record(map, row) {
             return false;
         }
     }
@@ -59,10 +62,15 @@ fn has_record(map: &MapIndex, row: &BoxRow) -> bool
 }
 
 /// Whether the text adds a listed message without a record of its GUID.
-fn adds_dangling(map: &MapIndex, index: &BoxIndex, text: &[u8]) -> Result<bool, NoMemory>
+fn adds_dangling(
+    alloc: Global,
+    map: &MapIndex,
+    index: &BoxIndex,
+    text: &[u8],
+) -> Result<bool, NoMemory>
     ensures { IfOk result (λ dangling. MatchBool dangling (AddsDangling map.now.meaning index.now.meaning text.now) (AddsNoDangling map.now.meaning index.now.meaning text.now)) }
 {
-    let Some(entry) = read_box_entry(text)? else {
+    let Some(entry) = read_box_entry(alloc, text, BOX_VERSION)? else {
         return Ok(false);
     };
     let Some(uid) = added_uid(&entry) else {
@@ -76,7 +84,7 @@ fn lacks_record(map: &MapIndex, index: &BoxIndex, uid: Uid) -> bool
     ensures { MatchBool result (LacksRecordAt map.now.meaning index.now.meaning uid.0) (HasRecordAt map.now.meaning index.now.meaning uid.0) }
 {
     match index.find(uid) {
-        Some(row) => !has_record(map, &row),
+        Some(row) => !has_record(map, row),
         None => false,
     }
 }
@@ -85,8 +93,8 @@ fn lacks_record(map: &MapIndex, index: &BoxIndex, uid: Uid) -> bool
 fn added_uid(entry: &BoxEntry) -> Option<Uid>
     ensures { option_map (λ uid. uid.0) result ≡ added_uid entry.now }
 {
-    match *entry {
-        BoxEntry::A { uid, .. } => Some(uid),
+    match entry {
+        BoxEntry::A { uid, .. } => Some(*uid),
         _ => None,
     }
 }

@@ -2,6 +2,7 @@
 ghost use Rattle.std.specs.Prelude.{◌≡◌, [], IfOk, IfErr, IsErrOf};
 ghost use Rattle.disk_model.specs.Disk.{IsIdle};
 ghost use Rattle.disk_model.specs.FaultCounts.{NoFault, ReadFaultCounted};
+ghost use Rattle.model_logs.specs.LogFile.{IsVersionOf};
 ghost use Rattle.store_checks.specs.Logs.{of_log, IsLogCause, IsLogReplayed};
 
 use crate::error::CheckError;
@@ -19,7 +20,8 @@ pub fn read_log<D: Disk, F: Replay>(
     head: LogHead,
     replay: &mut F,
 ) -> Result<(FoundLog, LogText), CheckError>
-    requires { F.is_replay replay.old [] }
+    requires replay { F.is_replay replay.old [] }
+    requires version { IsVersionOf head.kind head.version }
     ensures read { IfOk result (λ found. IsLogReplayed F.is_replay replay.new name head found.0 found.1 (D.history disk.old) (D.history disk.new)) }
     ensures store { F.store replay.new ≡ F.store replay.old }
     ensures log { IfOk result (λ found. (found.0.name ≡ name) × (found.0.head ≡ head)) }

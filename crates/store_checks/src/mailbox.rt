@@ -62,6 +62,7 @@ fn read_box<D: Disk>(
 {
     let name = FileName::Box(at.number.0, at.generation);
     let head = LogHead {
+        version: 2,
         store: id,
         kind: LogKind::Box,
         number: at.number.0,
@@ -69,7 +70,7 @@ fn read_box<D: Disk>(
     };
     let mut index = BoxIndex::empty(alloc)?;
     let (log, text) = read_log(alloc, disk, name, head, &mut index)?;
-    if let Some(place) = first_dangling(map, &index, &text)? {
+    if let Some(place) = first_dangling(alloc, map, &index, &text)? {
         return Err(CheckError::Damaged(name, place));
     }
     Ok(CheckedBox { log, index })

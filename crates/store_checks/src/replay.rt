@@ -11,6 +11,9 @@ use map_index::MapIndex;
 use mdbox_base::{NoMemory, RootEntry};
 use std::alloc::Global;
 
+/// The version of mailbox logs.
+pub(crate) const BOX_VERSION: u8 = 2;
+
 /// What the entries of a log mean so far.
 pub trait Replay {
     /// The value is what entries with these texts mean, each of which is good behind those before it.
@@ -67,14 +70,14 @@ impl Replay for BoxIndex {
 
     ghost store = { λ _. [] };
 
-    fn replay_entry(&mut self, _alloc: Global, text: &[u8]) -> Result<bool, NoMemory> {
-        let Some(entry) = read_box_entry(text)? else {
+    fn replay_entry(&mut self, alloc: Global, text: &[u8]) -> Result<bool, NoMemory> {
+        let Some(entry) = read_box_entry(alloc, text, BOX_VERSION)? else {
             return Ok(false);
         };
         if !self.fits(&entry) {
             return Ok(false);
         }
-        self.apply(&entry)?;
+        self.apply(entry)?;
         Ok(true)
     }
 }

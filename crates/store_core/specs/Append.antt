@@ -1,8 +1,8 @@
 -- What an append to the log of a mailbox asks, and what it leaves.
-use Rattle.std.specs.Prelude.{◌≡◌, ◌+◌, ◌-◌, ◌==◌, ℕ, List, ◌∷◌, Option, Some, if◌then◌else◌}
+use Rattle.std.specs.Prelude.{◌≡◌, ◌≤◌, ◌+◌, ◌-◌, ◌==◌, ℕ, List, ◌∷◌, Option, Some, if◌then◌else◌}
 use Rattle.std.specs.Option.{option_map_or}
 use Rattle.disk_model.specs.Disk.{History, IfTold, EachImage, OthersStay}
-use Rattle.gate_log.specs.State.{LogState, IsSameLog}
+use Rattle.gate_log.specs.State.{LogState}
 use Rattle.gate_log.specs.Log.{Holds, IsLogWithOrWithout}
 use Rattle.mdbox_base.specs.declared.entries.BoxEntry.{BoxEntry}
 use Rattle.mdbox_base.specs.declared.entries.BoxEntry.TheVariants as box
@@ -27,10 +27,12 @@ Brings m e octets history = IfTold history (λ now. AreListed (files_of now) m (
 
 -- ---- within the crate
 
--- the same mailbox, whose log has its name, head and room
+-- the same mailbox, whose log has its name and head, and no less room
 pub record IsSameBox (old new : OpenBox) : Type 0 where
   pub number : new.number ≡ old.number
-  pub log : IsSameLog old.log new.log
+  pub name : new.log.name ≡ old.log.name
+  pub head : new.log.head ≡ old.log.head
+  pub room : old.log.room ≤ new.log.room
 
 -- at every moment of an append each image has the log's entries, or these and this one, and of the other files what it could
 -- have before
@@ -39,7 +41,7 @@ AddsText log text old new = (entries : List (List ℕ)) → Holds log entries ol
 
 -- what an entry makes of what is due
 abbrev pub due_change_of : BoxMeaning → BoxEntry → DueChange
-due_change_of m (box.A uid flags time size map_uid guid) = change.Falls map_uid
+due_change_of m (box.A uid flags time size map_uid guid words) = change.Falls map_uid
 due_change_of m (box.R uid) = option_map_or (λ row. change.Rises (record { 0 = row.map_uid })) (row_at m uid.0) change.Stays
 due_change_of m entry = change.Stays
 

@@ -25,13 +25,13 @@ pub enum DueChange {
 pub(crate) fn due_change(index: &BoxIndex, entry: &BoxEntry) -> DueChange
     ensures { result ≡ due_change_of index.now.meaning entry.now }
 {
-    match *entry {
-        BoxEntry::A { map_uid, .. } => DueChange::Falls(map_uid),
-        BoxEntry::R { uid } => match index.find(uid) {
+    match entry {
+        BoxEntry::A { map_uid, .. } => DueChange::Falls(*map_uid),
+        BoxEntry::R { uid } => match index.find(*uid) {
             Some(row) => DueChange::Rises(row.map_uid),
             None => DueChange::Stays,
         },
-        BoxEntry::N { .. } | BoxEntry::F { .. } => DueChange::Stays,
+        BoxEntry::N { .. } | BoxEntry::F { .. } | BoxEntry::K { .. } => DueChange::Stays,
     }
 }
 

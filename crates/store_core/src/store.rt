@@ -2,9 +2,9 @@
 ghost use Rattle.std.specs.Prelude.{◌≡◌, ◌↔◌, ◌<◌, ◌≤◌, ◌^◌, ◌==◌, ℕ, List, All, Some, None, IfSome, IfNone, OnOk, IsErr, IsErrOf, map, true, false, length, find, count_by, sum_by, if◌then◌else◌};
 ghost use Rattle.std.specs.Option.{option_copied, option_map};
 ghost use Rattle.std.specs.Str.{bytes_eq};
-ghost use Rattle.box_index.specs.Row.{IsAdded};
 ghost use Rattle.disk_model.specs.Disk.{Grows, IsMoment};
 ghost use Rattle.disk_model.specs.FaultCounts.{NoFault, ChangeFaultCounted};
+ghost use Rattle.mdbox_base.specs.Keywords.{WantsMemory};
 ghost use Rattle.mdbox_base.specs.declared.entries.BoxEntry.{BoxEntry};
 ghost use Rattle.model_appends.specs.Amounts.{IsAccounted, due_by_box, HoldsAdded};
 ghost use Rattle.model_appends.specs.Appending.{lists_by, meanings_by};
@@ -264,8 +264,8 @@ impl<D: Disk> Store<D> {
         self.disk.moment()
     }
 
-    /// Adds an entry that fits to the log of a mailbox, and takes it in. It takes memory only for a message that is added, and
-    /// before anything is written; a change of the disk that fails stops the store.
+    /// Adds an entry that fits to the log of a mailbox, and takes it in. It takes memory only for a message that is added and for
+    /// keywords, and before anything is written; a change of the disk that fails stops the store.
     pub fn append_box(&mut self, mailbox: BoxNo, entry: &BoxEntry) -> Result<(), StepError>
         requires running { self.old.stopped ≡ false }
         requires range { BoxInRange entry.now }
@@ -292,7 +292,7 @@ impl<D: Disk> Store<D> {
 
         ensures stopped { IsErrOf result step_error.Stopped ↔ (self.new.stopped ≡ true) }
         ensures untaken { IsErr result → (indexes_of self.new.boxes ≡ indexes_of self.old.boxes) × (self.new.dues ≡ self.old.dues) }
-        ensures memory { IsErrOf result step_error.NoMemory → (self.new ≡ self.old) × IsAdded entry.now }
+        ensures memory { IsErrOf result step_error.NoMemory → (self.new ≡ self.old) × WantsMemory entry.now }
         ensures same { self.new ≡ record self.old { disk = self.new.disk; boxes = self.new.boxes; dues = self.new.dues; stopped = self.new.stopped } }
         ensures grows { Grows (D.history self.old.disk) (D.history self.new.disk) }
         ensures fault { ChangeFaultCounted (IsErrOf result step_error.Stopped) (D.faults self.old.disk) (D.faults self.new.disk) }
@@ -302,7 +302,7 @@ impl<D: Disk> Store<D> {
             unreachable!()
         };
         let how = due_change(&self.boxes[place].index, entry);
-        match append_in(&mut self.boxes[place], &mut self.disk, entry) {
+        match append_in(self.alloc, &mut self.boxes[place], &mut self.disk, entry) {
             Ok(()) => {
                 change_due(&self.map, &mut self.dues, how);
                 Ok(())
@@ -379,8 +379,8 @@ fn listed_in(index: &BoxIndex, guid: Guid) -> u64
 }
 
 /// 1 where the message has this GUID, else 0.
-fn one_if(row: BoxRow, guid: Guid) -> u64
-    ensures one { result ≡ if bytes_eq row.guid.0 guid.0 then 1 else 0 }
+fn one_if(row: &BoxRow, guid: Guid) -> u64
+    ensures one { result ≡ if bytes_eq row.now.guid.0 guid.0 then 1 else 0 }
     ensures most { result ≤ 1 }
 {
     if row.guid.0 == guid.0 { 1 } else { 0 }
