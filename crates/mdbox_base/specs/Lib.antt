@@ -1,4 +1,5 @@
 pub mod Clocks
+pub mod Keywords
 pub mod Numbers
 pub mod Streams
 pub mod Words

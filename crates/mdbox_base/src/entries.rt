@@ -1,7 +1,14 @@
 // Entries of the store's logs.
+ghost use Rattle.std.specs.Prelude.{◌≡◌, IsErr, IfOk};
+ghost use Rattle.mdbox_base.specs.Keywords.{WantsMemory};
+
 use crate::ids::{BoxNo, FileNo, Guid, Hash, InstId, MapUid, Uid};
+use crate::memory::NoMemory;
 use crate::name::Name;
+use crate::octets::Octets;
 use crate::seq::Seq;
+use crate::words::copied_texts;
+use std::alloc::Global;
 
 /// An entry of the root log.
 #[derive(Clone, Copy, Debug, PartialEq, Eq)]
@@ -104,7 +111,7 @@ pub enum MapEntry {
 }
 
 /// An entry of a mailbox's log.
-#[derive(Clone, Copy, Debug, PartialEq, Eq)]
+#[derive(Drop)]
 pub enum BoxEntry {
     /// The next UID is at least this.
     N {
@@ -118,14 +125,58 @@ pub enum BoxEntry {
         size: u32,
         map_uid: MapUid,
         guid: Guid,
+        words: Seq<Octets>,
     },
     /// The message's flags are these.
     F {
         uid: Uid,
         flags: u8,
     },
+    /// The message's keywords are these.
+    K {
+        uid: Uid,
+        words: Seq<Octets>,
+    },
     /// The message leaves.
     R {
         uid: Uid,
     },
+}
+
+impl BoxEntry {
+    /// A copy of the entry.
+    pub fn copied(&self, alloc: Global) -> Result<BoxEntry, NoMemory>
+        ensures ok { IfOk result (λ entry. entry ≡ self.now) }
+        ensures memory { IsErr result → WantsMemory self.now }
+    {
+        match self {
+            BoxEntry::N { next } => Ok(BoxEntry::N { next: *next }),
+            BoxEntry::A {
+                uid,
+                flags,
+                time,
+                size,
+                map_uid,
+                guid,
+                words,
+            } => Ok(BoxEntry::A {
+                uid: *uid,
+                flags: *flags,
+                time: *time,
+                size: *size,
+                map_uid: *map_uid,
+                guid: *guid,
+                words: copied_texts(alloc, words.as_slice())?,
+            }),
+            BoxEntry::F { uid, flags } => Ok(BoxEntry::F {
+                uid: *uid,
+                flags: *flags,
+            }),
+            BoxEntry::K { uid, words } => Ok(BoxEntry::K {
+                uid: *uid,
+                words: copied_texts(alloc, words.as_slice())?,
+            }),
+            BoxEntry::R { uid } => Ok(BoxEntry::R { uid: *uid }),
+        }
+    }
 }

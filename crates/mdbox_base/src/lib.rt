@@ -19,6 +19,7 @@ pub use requests::Request;
 pub use script::{Half, JournalEntry, Script};
 pub use seq::Seq;
 pub use stream::{InputError, Sink, SinkFault, Source, SourceFault, give_all, read_all};
+pub use words::{Words, are_words, copied_texts};
 
 mod clock;
 mod entries;
@@ -38,3 +39,4 @@ mod requests;
 mod script;
 mod seq;
 mod stream;
+mod words;

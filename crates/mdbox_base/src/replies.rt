@@ -3,15 +3,17 @@ use crate::flags::Flags;
 use crate::ids::{FileNo, Guid, Uid};
 use crate::octets::Octets;
 use crate::seq::Seq;
+use crate::words::Words;
 
 /// A row of a listing. Size in octets, time in Unix seconds.
-#[derive(Clone, Copy, Debug, PartialEq, Eq)]
+#[derive(Drop)]
 pub struct ListRow {
     pub uid: Uid,
     pub flags: Flags,
     pub size: u32,
     pub time: u64,
     pub guid: Guid,
+    pub words: Words,
 }
 
 /// Why a request is refused.

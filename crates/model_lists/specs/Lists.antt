@@ -2,15 +2,17 @@
 use Rattle.mdbox_base.specs.declared.replies.ListRow.{ListRow}
 use Rattle.std.specs.Prelude.{◌≡◌, ◌≢◌, ◌<◌, ◌≤◌, ◌^◌, ℕ, Bool, List, length, All, AllPairs, sum_by, count_by, ◌∷◌, [], if◌then◌else◌}
 use Rattle.std.specs.Str.{bytes_eq}
+use Rattle.mdbox_base.specs.Keywords.{AreWords}
 use Rattle.mdbox_base.specs.Words.{IsName}
 
--- A listed message: its UID, its flags, the time it was received (Unix seconds), its GUID and its octets.
+-- A listed message: its UID, its flags, the time it was received (Unix seconds), its GUID, its octets and its keywords.
 pub record ListedMessage : Type 0 where
   pub uid : ℕ
   pub flags : ℕ
   pub time : ℕ
   pub guid : List ℕ
   pub octets : List ℕ
+  pub words : List (List ℕ)
 
 -- A mailbox: its number in the store, its name, the UID that its next message gets, and its messages.
 pub record Mailbox : Type 0 where
@@ -24,7 +26,7 @@ abbrev pub Lists : Type 0
 Lists = List Mailbox
 
 -- The numbers of a message are in their ranges: UIDs from 1 to 4,294,967,294, flags as bits below 32, 64 bits of time,
--- a GUID of 16 octets, and at most 67,108,864 octets.
+-- a GUID of 16 octets, and at most 67,108,864 octets; and its keywords are some.
 pub record IsMessageInRange (message : ListedMessage) : Type 0 where
   pub uid_some : 1 ≤ message.uid
   pub uid_fits : message.uid ≤ 4294967294
@@ -32,6 +34,7 @@ pub record IsMessageInRange (message : ListedMessage) : Type 0 where
   pub time : message.time < 2 ^ 64
   pub guid : length message.guid ≡ 16
   pub size : length message.octets ≤ 67108864
+  pub words : AreWords message.words
 
 -- UIDs rise within the mailbox, and lie below its next UID (RFC 9051, section 2.3.1.1), which is from 1 to
 -- 4,294,967,295. The mailbox has a name, and a number from 1 to 4,294,967,294.
@@ -72,4 +75,5 @@ listing_row message = record {
   size = length message.octets;
   time = message.time;
   guid = record { 0 = message.guid };
+  words = message.words;
 }
