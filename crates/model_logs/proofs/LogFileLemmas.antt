@@ -10,7 +10,7 @@ use Rattle.model_logs.specs.declared.log_head.LogHead.{LogHead}
 use Rattle.model_logs.specs.declared.log_head.LogKind.{LogKind}
 use Rattle.model_logs.specs.declared.log_head.LogKind.TheVariants.{Root, Map, Box}
 use Rattle.model_octets.proofs.PiecesLemmas.{split_same}
-use Rattle.model_octets.proofs.NumberLemmas.{four_same}
+use Rattle.model_octets.proofs.NumberLemmas.{four_same, front, behind}
 use Rattle.model_logs.specs.LogFile.{kind_letter, HeadFits, head_octets, record_octets, EntryFits, opened, log_front, end_from, log_end, record_places_from, EndsLog, IsLog, IsTaken, BeginsHead, IsHeadDamaged, BeginsRecord, IsRecordDamaged, IsDamagedAt}
 
 -- a record begins no other
@@ -45,26 +45,29 @@ numbers_same h k x y fh fk e =
 kind_split : (h k : LogHead) (a b : List ℕ) → kind_letter h.kind ∷ a ≡ kind_letter k.kind ∷ b → (h.kind ≡ k.kind) × (a ≡ b)
 kind_split h k a b e = (kind_same h.kind k.kind (cc), cc)
 
-head_of : List ℕ → LogKind → ℕ → ℕ → LogHead
-head_of store kind number generation = record { store = record { 0 = store }; kind = kind; number = number; generation = generation }
+head_of : ℕ → List ℕ → LogKind → ℕ → ℕ → LogHead
+head_of version store kind number generation = record { version = version; store = record { 0 = store }; kind = kind; number = number; generation = generation }
 
-head_is : (h : LogHead) → h ≡ head_of h.store.0 h.kind h.number h.generation
+head_is : (h : LogHead) → h ≡ head_of h.version h.store.0 h.kind h.number h.generation
 unfolding head_of
 head_is h = refl
 
-heads_equal : (h k : LogHead) → h.store.0 ≡ k.store.0 → h.kind ≡ k.kind → h.number ≡ k.number → h.generation ≡ k.generation → h ≡ k
-heads_equal h k a b c d = cc (head_is h, head_is k)
+heads_equal : (h k : LogHead) → h.version ≡ k.version → h.store.0 ≡ k.store.0 → h.kind ≡ k.kind → h.number ≡ k.number → h.generation ≡ k.generation → h ≡ k
+heads_equal h k v a b c d = cc (head_is h, head_is k)
 
 -- a head begins no other
 pub head_same : (h k : LogHead) (x y : List ℕ) → HeadFits h → HeadFits k → head_octets h ++ x ≡ head_octets k ++ y → (h ≡ k) × (x ≡ y)
 unfolding head_octets numbers
 head_same h k x y fh fk e =
-    let m : (codes "MDBXLOG1" ≡ codes "MDBXLOG1") × ((h.store.0 ++ (kind_letter h.kind ∷ numbers h)) ++ x ≡ (k.store.0 ++ (kind_letter k.kind ∷ numbers k)) ++ y) = split_same (codes "MDBXLOG1") (codes "MDBXLOG1") _ _ refl e in
+    let m = split_same (codes "MDBXLOG") (codes "MDBXLOG") _ _ refl e in
+    let d : 48 + h.version ≡ 48 + k.version = ap front m.1 in
+    let v : h.version ≡ k.version = omega (arith, d) in
+    let t : (h.store.0 ++ (kind_letter h.kind ∷ numbers h)) ++ x ≡ (k.store.0 ++ (kind_letter k.kind ∷ numbers k)) ++ y = ap behind m.1 in
     let s : (h.store.0 ≡ k.store.0) × ((kind_letter h.kind ∷ (numbers h ++ x)) ≡ (kind_letter k.kind ∷ (numbers k ++ y))) =
-    split_same h.store.0 k.store.0 _ _ (fh.store ∙ sym fk.store) (sym (append_assoc h.store.0 _ x) ∙ m.1 ∙ append_assoc k.store.0 _ y) in
+    split_same h.store.0 k.store.0 _ _ (fh.store ∙ sym fk.store) (sym (append_assoc h.store.0 _ x) ∙ t ∙ append_assoc k.store.0 _ y) in
     let l : (h.kind ≡ k.kind) × (numbers h ++ x ≡ numbers k ++ y) = kind_split h k _ _ s.1 in
     let n : (h.number ≡ k.number) × (h.generation ≡ k.generation) × (x ≡ y) = numbers_same h k x y fh fk l.1 in
-    (heads_equal h k s.0 l.0 n.0 n.1, n.2)
+    (heads_equal h k v s.0 l.0 n.0 n.1, n.2)
 
 -- a head has 25 octets
 pub head_length : (h : LogHead) → HeadFits h → length (head_octets h) ≡ 25

@@ -1,5 +1,5 @@
 -- The octets of entries of logs. Numbers are big-endian.
-use Rattle.std.specs.Prelude.{◌≡◌, ◌<◌, ◌^◌, ℕ, List, [], ◌∷◌, ◌++◌, length, flat_map}
+use Rattle.std.specs.Prelude.{◌≡◌, ◌==◌, ◌<◌, ◌^◌, ℕ, List, [], ◌∷◌, ◌++◌, Bool, true, false, length, flat_map}
 use Rattle.std.specs.List.{AllByRecursion}
 use Rattle.std.specs.Int.{w16, w32, w64, to_be_bytes}
 use Rattle.mdbox_base.specs.Words.{IsName}
@@ -27,13 +27,27 @@ name_text name = length name ∷ name
 abbrev pub root_text : RootEntry → List ℕ
 root_text (root.M generation) = 77 ∷ four generation
 
--- The text of an entry of a mailbox log.
+-- a list of keywords: their number in one octet, and each with its length before it
+abbrev pub words_text : List (List ℕ) → List ℕ
+words_text words = length words ∷ flat_map name_text words
+
+-- what stands behind the GUID of an added message: its keywords, where the log has them
+abbrev pub added_words : Bool → List (List ℕ) → List ℕ
+added_words true words = words_text words
+added_words false words = []
+
+-- The text of an entry of a mailbox log of this version. One of version 1 has no keywords.
+abbrev pub text_in : ℕ → BoxEntry → List ℕ
+text_in version (box.N next) = 78 ∷ four next
+text_in version (box.A uid flags time size map_uid guid words) =
+    65 ∷ (four uid.0 ++ (flags ∷ (to_be_bytes w64 time ++ (four size ++ (four map_uid.0 ++ (guid.0 ++ added_words (version == 2) words))))))
+text_in version (box.F uid flags) = 70 ∷ (four uid.0 ++ flags ∷ [])
+text_in version (box.K uid words) = 75 ∷ (four uid.0 ++ words_text words)
+text_in version (box.R uid) = 82 ∷ four uid.0
+
+-- the text in the version that is written
 abbrev pub box_text : BoxEntry → List ℕ
-box_text (box.N next) = 78 ∷ four next
-box_text (box.A uid flags time size map_uid guid) =
-    65 ∷ (four uid.0 ++ (flags ∷ (to_be_bytes w64 time ++ (four size ++ (four map_uid.0 ++ guid.0)))))
-box_text (box.F uid flags) = 70 ∷ (four uid.0 ++ flags ∷ [])
-box_text (box.R uid) = 82 ∷ four uid.0
+box_text = text_in 2
 
 -- an instance in a map entry: hash, id and size
 abbrev pub instance_row_text : InstRow → List ℕ
@@ -60,11 +74,28 @@ map_text (map.V mailbox name) = 86 ∷ (four mailbox.0 ++ name_text name)
 abbrev pub RootInRange : RootEntry → Type 0
 RootInRange (root.M generation) = generation < 2 ^ 32
 
+-- fewer than 256 keywords of fewer than 256 octets each; none where the log has no keywords
+abbrev pub WordsInRange : Bool → List (List ℕ) → Type 0
+WordsInRange true words = (length words < 256) × AllByRecursion (λ word. length word < 256) words
+WordsInRange false words = words ≡ []
+
+-- keywords are set only where the log has them
+abbrev pub SetInRange : Bool → List (List ℕ) → Type 0
+SetInRange true words = WordsInRange true words
+SetInRange false words = ⊥
+
+-- of an entry of a mailbox log of this version
+abbrev pub InRangeIn : ℕ → BoxEntry → Type 0
+InRangeIn version (box.N next) = next < 2 ^ 32
+InRangeIn version (box.A uid flags time size map_uid guid words) = (uid.0 < 2 ^ 32) × (flags < 256) × (time < 2 ^ 64) × (size < 2 ^ 32) × (map_uid.0 < 2 ^ 32) × (length guid.0 ≡ 16)
+    × WordsInRange (version == 2) words
+InRangeIn version (box.F uid flags) = (uid.0 < 2 ^ 32) × (flags < 256)
+InRangeIn version (box.K uid words) = (uid.0 < 2 ^ 32) × SetInRange (version == 2) words
+InRangeIn version (box.R uid) = uid.0 < 2 ^ 32
+
+-- in the version that is written
 abbrev pub BoxInRange : BoxEntry → Type 0
-BoxInRange (box.N next) = next < 2 ^ 32
-BoxInRange (box.A uid flags time size map_uid guid) = (uid.0 < 2 ^ 32) × (flags < 256) × (time < 2 ^ 64) × (size < 2 ^ 32) × (map_uid.0 < 2 ^ 32) × (length guid.0 ≡ 16)
-BoxInRange (box.F uid flags) = (uid.0 < 2 ^ 32) × (flags < 256)
-BoxInRange (box.R uid) = uid.0 < 2 ^ 32
+BoxInRange = InRangeIn 2
 
 abbrev pub RowInRange : InstRow → Type 0
 RowInRange row = (length row.hash.0 ≡ 20) × (length row.id.0 ≡ 16) × (row.size < 2 ^ 32)
@@ -90,9 +121,9 @@ pub record IsRootText (octets : List ℕ) (entry : RootEntry) : Type 0 where
   pub text : octets ≡ root_text entry
   pub in_range : RootInRange entry
 
-pub record IsBoxText (octets : List ℕ) (entry : BoxEntry) : Type 0 where
-  pub text : octets ≡ box_text entry
-  pub in_range : BoxInRange entry
+pub record IsBoxText (version : ℕ) (octets : List ℕ) (entry : BoxEntry) : Type 0 where
+  pub text : octets ≡ text_in version entry
+  pub in_range : InRangeIn version entry
 
 pub record IsMapText (octets : List ℕ) (entry : MapEntry) : Type 0 where
   pub text : octets ≡ map_text entry

@@ -12,16 +12,29 @@ kind_letter Root = 82
 kind_letter Map = 77
 kind_letter Box = 66
 
--- a head as the code's type can hold it
+-- a log of this kind may have this version: that of a mailbox 1 or 2, any other 1
+abbrev pub IsVersionOf : LogKind → ℕ → Type 0
+IsVersionOf Root version = version ≡ 1
+IsVersionOf Map version = version ≡ 1
+IsVersionOf Box version = (version ≡ 1) ⊎ (version ≡ 2)
+
+-- the version in which a log of this kind is written
+abbrev pub version_of : LogKind → ℕ
+version_of Root = 1
+version_of Map = 1
+version_of Box = 2
+
+-- a head as the code's type can hold it, with a version that its kind may have
 pub record HeadFits (head : LogHead) : Type 0 where
+  pub version : IsVersionOf head.kind head.version
   pub store : length head.store.0 ≡ 8
   pub octets : IsOctets head.store.0
   pub number : head.number < 2 ^ 32
   pub generation : head.generation < 2 ^ 32
 
--- the 25 octets of a head
+-- the 25 octets of a head: seven letters and the digit of the version stand first
 unfoldable pub head_octets : LogHead → List ℕ
-head_octets head = codes "MDBXLOG1" ++ (head.store.0 ++ kind_letter head.kind ∷ (to_be_bytes w32 head.number ++ to_be_bytes w32 head.generation))
+head_octets head = codes "MDBXLOG" ++ (48 + head.version) ∷ (head.store.0 ++ kind_letter head.kind ∷ (to_be_bytes w32 head.number ++ to_be_bytes w32 head.generation))
 
 -- a record: the entry's length in 4 octets, and the entry
 abbrev pub record_octets : List ℕ → List ℕ

@@ -23,7 +23,7 @@ use Rattle.model_meaning.specs.BoxMeaning.{LogRow, rows_after, next_after, AllBo
 use Rattle.model_meaning.specs.MapMeaning.{MapRecord, MapBox, MapMeaning, map_meaning, record_at}
 use Rattle.model_meaning.specs.MapFits.{AllMapFit}
 use Rattle.mdbox_base.specs.Words.{IsNumber}
-use Rattle.model_logs.specs.LogFile.{IsLog}
+use Rattle.model_logs.specs.LogFile.{version_of, IsLog}
 use Rattle.model_storage.specs.StorageFile.{Message, IsMessage}
 use Rattle.model_storage.specs.Metadata.{IsMetadata}
 use Rattle.model_attach.specs.Rejoined.{IsWhole}
@@ -32,9 +32,9 @@ use Rattle.model_logs.specs.Entries.{root_text, map_text, box_text, RootInRange,
 
 -- ---- the logs
 
--- the head of a log of the store with this id
+-- the head of a log of the store with this id, in the version that is written
 abbrev pub head_of : List ℕ → LogKind → ℕ → ℕ → LogHead
-head_of store kind number generation = record { store = record { 0 = store }; kind = kind; number = number; generation = generation }
+head_of store kind number generation = record { version = version_of kind; store = record { 0 = store }; kind = kind; number = number; generation = generation }
 
 -- a file is there, and it is a log with this head and these entries
 pub record HasLog (image : Files) (name : FileName) (head : LogHead) (entries : List (List ℕ)) : Type 0 where
