@@ -1,5 +1,6 @@
 -- What the entries of a mailbox log mean.
 use Rattle.std.specs.Prelude.{◌≡◌, ◌≤◌, ◌<◌, ◌+◌, ◌==◌, ℕ, max, Bool, false, List, [], ◌∷◌, ◌++◌, length, Option, Some, find, if◌then◌else◌}
+use Rattle.mdbox_base.specs.Keywords.{AreWords}
 use Rattle.mdbox_base.specs.declared.entries.BoxEntry.{BoxEntry}
 use Rattle.mdbox_base.specs.declared.entries.BoxEntry.TheVariants as box
 use Rattle.model_meaning.specs.Rows.{Rules, rows_of, rows_by}
@@ -12,11 +13,12 @@ pub record LogRow : Type 0 where
   pub size : ℕ
   pub map_uid : ℕ
   pub guid : List ℕ
+  pub words : List (List ℕ)
 
--- An Added makes a row, a Removed removes it, a Flagged changes its flags.
+-- An Added makes a row, a Removed removes it, a Flagged changes its flags and a Keywords its keywords.
 abbrev pub row_made : BoxEntry → List LogRow
-row_made (box.A uid flags time size map_uid guid) =
-    record { uid = uid.0; flags = flags; time = time; size = size; map_uid = map_uid.0; guid = guid.0 } ∷ []
+row_made (box.A uid flags time size map_uid guid words) =
+    record { uid = uid.0; flags = flags; time = time; size = size; map_uid = map_uid.0; guid = guid.0; words = words } ∷ []
 row_made entry = []
 
 abbrev pub row_removed : BoxEntry → LogRow → Bool
@@ -25,20 +27,21 @@ row_removed entry row = false
 
 abbrev pub row_changed : BoxEntry → LogRow → LogRow
 row_changed (box.F uid flags) row = if uid.0 == row.uid then record row { flags = flags } else row
+row_changed (box.K uid words) row = if uid.0 == row.uid then record row { words = words } else row
 row_changed entry row = row
 
 abbrev pub row_rules : Rules BoxEntry LogRow
 row_rules = record { made = row_made; removes = row_removed; changed = row_changed }
 
--- The messages: the Added ones that no later Removed names, in order, each with the flags of the last Flagged behind it
--- that names it, else its own.
+-- The messages: the Added ones that no later Removed names, in order, each with the flags of the last Flagged and the
+-- keywords of the last Keywords behind it that name it, else its own.
 abbrev pub rows_after : List BoxEntry → List LogRow
 rows_after entries = rows_of row_rules entries
 
 -- the number that an entry asks the next UID to be at least
 abbrev pub next_named : BoxEntry → ℕ
 next_named (box.N next) = next
-next_named (box.A uid flags time size map_uid guid) = uid.0 + 1
+next_named (box.A uid flags time size map_uid guid words) = uid.0 + 1
 next_named entry = 1
 
 -- The next UID: the greatest of 1, each Next, and one more than each Added UID.
@@ -69,9 +72,10 @@ IsListedUid m uid = (row : LogRow) × (row_at m uid ≡ Some row)
 -- An entry fits behind entries of this meaning.
 abbrev pub BoxFits : BoxMeaning → BoxEntry → Type 0
 BoxFits m (box.N next) = (m.next ≤ next) × (1 ≤ next) × (next ≤ 4294967295)
-BoxFits m (box.A uid flags time size map_uid guid) =
-    (m.next ≤ uid.0) × (uid.0 ≤ 4294967294) × (flags ≤ 31) × (size ≤ 67108864) × (length m.rows < 1000000)
+BoxFits m (box.A uid flags time size map_uid guid words) =
+    (m.next ≤ uid.0) × (uid.0 ≤ 4294967294) × (flags ≤ 31) × (size ≤ 67108864) × (length m.rows < 1000000) × AreWords words
 BoxFits m (box.F uid flags) = IsListedUid m uid.0 × (flags ≤ 31)
+BoxFits m (box.K uid words) = IsListedUid m uid.0 × AreWords words
 BoxFits m (box.R uid) = IsListedUid m uid.0
 
 -- each entry fits behind those before it

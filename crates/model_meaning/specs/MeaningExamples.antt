@@ -10,9 +10,9 @@ use Rattle.model_logs.specs.LogExamples.{example_store}
 abbrev pub example_guid : List ℕ
 example_guid = example_store ++ (0 ∷ 0 ∷ 0 ∷ 1 ∷ 0 ∷ 0 ∷ 0 ∷ 0x10 ∷ [])
 
--- the entry of the mailbox log: a message with UID 1, of no octets, received at 0x65000000
+-- the entry of the mailbox log: a message with UID 1, of no octets, received at 0x65000000, without keywords
 abbrev pub example_added : BoxEntry
-example_added = box.A (record { 0 = 1 }) 0 0x65000000 0 (record { 0 = 1 }) (record { 0 = example_guid })
+example_added = box.A (record { 0 = 1 }) 0 0x65000000 0 (record { 0 = 1 }) (record { 0 = example_guid }) []
 
 -- the entries of the map log: mailbox 1 of generation 1 is INBOX, and a region of 0x59 octets of file 1
 abbrev pub example_made : MapEntry

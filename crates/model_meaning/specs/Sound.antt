@@ -1,5 +1,6 @@
 -- What the meaning of every log whose entries fit has: numbers in order and in range.
 use Rattle.std.specs.Prelude.{◌≡◌, ◌≢◌, ◌<◌, ◌≤◌, ◌+◌, ◌^◌, ℕ, length, All, AllPairs}
+use Rattle.mdbox_base.specs.Keywords.{AreWords}
 use Rattle.mdbox_base.specs.Words.{IsName, IsOctets, IsNumber}
 use Rattle.mdbox_base.specs.declared.entries.Highest.{Highest}
 use Rattle.mdbox_base.specs.declared.entries.MapEntry.{MapEntry}
@@ -17,6 +18,7 @@ pub record IsSoundRow (next : ℕ) (row : LogRow) : Type 0 where
   pub size : row.size ≤ 67108864
   pub map_uid : row.map_uid < 2 ^ 32
   pub guid : length row.guid ≡ 16
+  pub words : AreWords row.words
 
 -- The meaning of a mailbox log: UIDs rise below the next UID, and there are at most 1,000,000 rows.
 pub record IsSoundBox (m : BoxMeaning) : Type 0 where

@@ -19,7 +19,7 @@ pub fn example_texts()
 /// The mailbox log has one row, the map log one record with count 1 and the mailbox INBOX.
 pub fn example_meanings()
     ensures mailbox { box_meaning (example_added ∷ []) ≡ record {
-      rows = record { uid = 1; flags = 0; time = 1694498816; size = 0; map_uid = 1; guid = example_guid } ∷ [];
+      rows = record { uid = 1; flags = 0; time = 1694498816; size = 0; map_uid = 1; guid = example_guid; words = [] } ∷ [];
       next = 2;
     } }
     ensures map { map_meaning example_store example_map ≡ record {

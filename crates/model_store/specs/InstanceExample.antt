@@ -70,16 +70,17 @@ instance_metadata = record { guid = Some (record { 0 = example_guid }); received
 
 -- ---- the logs
 
--- The mailbox log has one entry of 38 octets: a message with UID 1, of four octets, received at 0x65000000.
+-- The mailbox log has version 2 and one entry of 39 octets: a message with UID 1, of four octets, received at 0x65000000,
+-- without keywords.
 abbrev pub instance_added : BoxEntry
-instance_added = box.A (record { 0 = 1 }) 0 0x65000000 4 (record { 0 = 1 }) (record { 0 = example_guid })
+instance_added = box.A (record { 0 = 1 }) 0 0x65000000 4 (record { 0 = 1 }) (record { 0 = example_guid }) []
 
 abbrev pub added_entry : List ℕ
 added_entry = 0x41 ∷ 0 ∷ 0 ∷ 0 ∷ 1 ∷ 0 ∷ 0 ∷ 0 ∷ 0 ∷ 0 ∷ 0x65 ∷ 0 ∷ 0 ∷ 0 ∷ 0 ∷ 0 ∷ 0 ∷ 4 ∷ 0 ∷ 0 ∷ 0 ∷ 1
-    ∷ 0x00 ∷ 0x11 ∷ 0x22 ∷ 0x33 ∷ 0x44 ∷ 0x55 ∷ 0x66 ∷ 0x77 ∷ 0 ∷ 0 ∷ 0 ∷ 1 ∷ 0 ∷ 0 ∷ 0 ∷ 0x10 ∷ []
+    ∷ 0x00 ∷ 0x11 ∷ 0x22 ∷ 0x33 ∷ 0x44 ∷ 0x55 ∷ 0x66 ∷ 0x77 ∷ 0 ∷ 0 ∷ 0 ∷ 1 ∷ 0 ∷ 0 ∷ 0 ∷ 0x10 ∷ 0 ∷ []
 
 abbrev pub instance_box_log : List ℕ
-instance_box_log = codes "MDBXLOG1" ++ example_store ++ (0x42 ∷ 0 ∷ 0 ∷ 0 ∷ 1 ∷ 0 ∷ 0 ∷ 0 ∷ 1 ∷ 1 ∷ 0 ∷ 0 ∷ 0 ∷ 38 ∷ []) ++ added_entry ++ 0 ∷ []
+instance_box_log = codes "MDBXLOG2" ++ example_store ++ (0x42 ∷ 0 ∷ 0 ∷ 0 ∷ 1 ∷ 0 ∷ 0 ∷ 0 ∷ 1 ∷ 1 ∷ 0 ∷ 0 ∷ 0 ∷ 39 ∷ []) ++ added_entry ++ 0 ∷ []
 
 -- The map log has two entries, of 15 and of 78 octets: mailbox 1 of generation 1 is INBOX, and a region of 0xb5 octets of
 -- file 1 with one instance.
@@ -111,4 +112,4 @@ abbrev pub whole_octets : List ℕ
 whole_octets = codes "axyb"
 
 abbrev pub instance_lists : Lists
-instance_lists = record { number = 1; name = codes "INBOX"; next_uid = 2; messages = record { uid = 1; flags = 0; time = 0x65000000; guid = example_guid; octets = whole_octets } ∷ [] } ∷ []
+instance_lists = record { number = 1; name = codes "INBOX"; next_uid = 2; messages = record { uid = 1; flags = 0; time = 0x65000000; guid = example_guid; octets = whole_octets; words = [] } ∷ [] } ∷ []

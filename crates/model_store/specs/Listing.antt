@@ -18,6 +18,7 @@ listed_row row = record {
   size = row.size;
   time = row.time;
   guid = record { 0 = row.guid };
+  words = row.words;
 }
 
 -- A mailbox is that of the map, with its number and its name, and shows what the entries of its log say: the next UID,

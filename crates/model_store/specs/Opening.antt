@@ -133,8 +133,9 @@ pub record IsDangling (m : MapMeaning) (entries : List BoxEntry) (place : ℕ) :
   pub size : ℕ
   pub map_uid : MapUid
   pub guid : Guid
+  pub words : List (List ℕ)
   pub behind : List BoxEntry
-  pub split : entries ≡ before ++ box.A uid flags time size map_uid guid ∷ behind
+  pub split : entries ≡ before ++ box.A uid flags time size map_uid guid words ∷ behind
   pub row : LogRow
   pub listed : Contains (rows_after entries) row
   pub same : row.uid ≡ uid.0

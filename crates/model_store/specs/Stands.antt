@@ -115,6 +115,7 @@ pub record IsListed (image : Files) (m : MapMeaning) (row : LogRow) (message : L
   pub time : message.time ≡ row.time
   pub guid : message.guid ≡ row.guid
   pub size : length message.octets ≡ row.size
+  pub words : message.words ≡ row.words
   pub entry : MapRecord
   pub found : record_at m row.map_uid ≡ Some entry
   pub same : entry.guid ≡ row.guid

@@ -48,4 +48,4 @@ disk_at_rest files = λ name. file_at_rest (files name)
 
 -- The lists.
 abbrev pub example_lists : Lists
-example_lists = record { number = 1; name = codes "INBOX"; next_uid = 2; messages = record { uid = 1; flags = 0; time = 0x65000000; guid = example_guid; octets = [] } ∷ [] } ∷ []
+example_lists = record { number = 1; name = codes "INBOX"; next_uid = 2; messages = record { uid = 1; flags = 0; time = 0x65000000; guid = example_guid; octets = []; words = [] } ∷ [] } ∷ []
