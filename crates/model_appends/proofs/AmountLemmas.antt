@@ -9,7 +9,7 @@ use Rattle.mdbox_base.specs.declared.entries.MapEntry.TheVariants as map_entry
 use Rattle.model_meaning.proofs.AppliedLemmas.{rows_by_next, rows_by_removed, rows_by_added}
 use Rattle.model_meaning.specs.BoxMeaning.{row_at}
 use Rattle.model_appends.specs.MapAppending.{stored_row}
-use Rattle.model_appends.proofs.AppendOpenLemmas.{listed_flagged}
+use Rattle.model_appends.proofs.AppendOpenLemmas.{listed_same, listed_flagged, listed_worded}
 use Rattle.model_appends.proofs.AppendMapOpenLemmas.{records_added}
 use Rattle.model_meaning.specs.Sound.{IsSoundBox, IsSoundRecord}
 use Rattle.model_meaning.proofs.BoxSoundLemmas.{box_sound}
@@ -94,52 +94,39 @@ listed_removed number u (box ∷ boxes) (log ∷ logs) m row uid at rising found
         omega (arith, a, b, k)
 
 -- An `A`: one more.
-pub listed_added : (number : ℕ) (u : Uid) (flags time size : ℕ) (k : MapUid) (guid : Guid) (boxes : List MapBox) (logs : List (List BoxEntry)) (m : BoxMeaning) (uid : ℕ) → meaning_numbered number boxes (map box_meaning logs) ≡ Some m
-    → listed_of (logs_by number (entry.A u flags time size k guid) boxes logs) uid ≡ listed_of logs uid + bit (k.0 == uid)
-listed_added number u flags time size k guid [] [] m uid at = absurd (cc (let h : None ≡ Some m = at in h))
-listed_added number u flags time size k guid [] (log ∷ logs) m uid at = absurd (cc (let h : None ≡ Some m = at in h))
-listed_added number u flags time size k guid (box ∷ boxes) [] m uid at = absurd (cc (let h : None ≡ Some m = at in h))
-listed_added number u flags time size k guid (box ∷ boxes) (log ∷ logs) m uid at = by_test (box.number == number) at (λ h. listed_added number u flags time size k guid boxes logs m uid h)
+pub listed_added : (number : ℕ) (u : Uid) (flags time size : ℕ) (k : MapUid) (guid : Guid) (words : List (List ℕ)) (boxes : List MapBox) (logs : List (List BoxEntry)) (m : BoxMeaning) (uid : ℕ) → meaning_numbered number boxes (map box_meaning logs) ≡ Some m
+    → listed_of (logs_by number (entry.A u flags time size k guid words) boxes logs) uid ≡ listed_of logs uid + bit (k.0 == uid)
+listed_added number u flags time size k guid words [] [] m uid at = absurd (cc (let h : None ≡ Some m = at in h))
+listed_added number u flags time size k guid words [] (log ∷ logs) m uid at = absurd (cc (let h : None ≡ Some m = at in h))
+listed_added number u flags time size k guid words (box ∷ boxes) [] m uid at = absurd (cc (let h : None ≡ Some m = at in h))
+listed_added number u flags time size k guid words (box ∷ boxes) (log ∷ logs) m uid at = by_test (box.number == number) at (λ h. listed_added number u flags time size k guid words boxes logs m uid h)
   where
     e : BoxEntry
-    e = entry.A u flags time size k guid
+    e = entry.A u flags time size k guid words
 
     in_log : List BoxEntry → ℕ
     in_log l = count_by (λ row. row.map_uid == uid) (rows_after l)
 
     by_test : (t : Bool) → cond t (Some (box_meaning log)) (meaning_numbered number boxes (map box_meaning logs)) ≡ Some m
-        → (meaning_numbered number boxes (map box_meaning logs) ≡ Some m → listed_of (logs_by number (entry.A u flags time size k guid) boxes logs) uid ≡ listed_of logs uid + bit (k.0 == uid))
-        → listed_of (cond t ((log ++ entry.A u flags time size k guid ∷ []) ∷ logs) (log ∷ logs_by number (entry.A u flags time size k guid) boxes logs)) uid ≡ listed_of (log ∷ logs) uid + bit (k.0 == uid)
+        → (meaning_numbered number boxes (map box_meaning logs) ≡ Some m → listed_of (logs_by number (entry.A u flags time size k guid words) boxes logs) uid ≡ listed_of logs uid + bit (k.0 == uid))
+        → listed_of (cond t ((log ++ entry.A u flags time size k guid words ∷ []) ∷ logs) (log ∷ logs_by number (entry.A u flags time size k guid words) boxes logs)) uid ≡ listed_of (log ∷ logs) uid + bit (k.0 == uid)
     by_test true h rest =
-        let row : LogRow = record { uid = u.0; flags = flags; time = time; size = size; map_uid = k.0; guid = guid.0 } in
-        let here : in_log (log ++ entry.A u flags time size k guid ∷ []) ≡ in_log log + (0 + bit (k.0 == uid)) =
-        ap (λ (rows : List LogRow). count_by (λ (row : LogRow). row.map_uid == uid) rows) (one_more row_rules log (entry.A u flags time size k guid) ∙ rows_by_added u flags time size k guid (rows_after log))
+        let row : LogRow = record { uid = u.0; flags = flags; time = time; size = size; map_uid = k.0; guid = guid.0; words = words } in
+        let here : in_log (log ++ entry.A u flags time size k guid words ∷ []) ≡ in_log log + (0 + bit (k.0 == uid)) =
+        ap (λ (rows : List LogRow). count_by (λ (row : LogRow). row.map_uid == uid) rows) (one_more row_rules log (entry.A u flags time size k guid words) ∙ rows_by_added u flags time size k guid words (rows_after log))
         ∙ sum_by-append (λ (row : LogRow). bit (row.map_uid == uid)) (rows_after log) (row ∷ []) in
-        let a = sum_by-cons in_log (log ++ entry.A u flags time size k guid ∷ []) logs in
+        let a = sum_by-cons in_log (log ++ entry.A u flags time size k guid words ∷ []) logs in
         let b = sum_by-cons in_log log logs in
         omega (arith, a, b, here)
     by_test false h rest =
-        let a = sum_by-cons in_log log (logs_by number (entry.A u flags time size k guid) boxes logs) in
+        let a = sum_by-cons in_log log (logs_by number (entry.A u flags time size k guid words) boxes logs) in
         let b = sum_by-cons in_log log logs in
         let r = rest h in
         omega (arith, a, b, r)
 
 -- An `N`: as many.
 pub listed_next : (number next : ℕ) (boxes : List MapBox) (logs : List (List BoxEntry)) (uid : ℕ) → listed_of (logs_by number (entry.N next) boxes logs) uid ≡ listed_of logs uid
-listed_next number next [] [] uid = refl
-listed_next number next [] (log ∷ logs) uid = refl
-listed_next number next (box ∷ boxes) [] uid = refl
-listed_next number next (box ∷ boxes) (log ∷ logs) uid = by_test (box.number == number) (listed_next number next boxes logs uid)
-  where
-    in_log : List BoxEntry → ℕ
-    in_log l = count_by (λ row. row.map_uid == uid) (rows_after l)
-
-    here : in_log (log ++ entry.N next ∷ []) ≡ in_log log
-    here = ap (count_by (λ (row : LogRow). row.map_uid == uid)) (one_more row_rules log (entry.N next) ∙ rows_by_next next (rows_after log))
-
-    by_test : (t : Bool) → listed_of (logs_by number (entry.N next) boxes logs) uid ≡ listed_of logs uid → listed_of (cond t ((log ++ entry.N next ∷ []) ∷ logs) (log ∷ logs_by number (entry.N next) boxes logs)) uid ≡ listed_of (log ∷ logs) uid
-    by_test true rest = sum_by-cons in_log (log ++ entry.N next ∷ []) logs ∙ ap (λ (n : ℕ). n + sum_by in_log logs) here ∙ sym (sum_by-cons in_log log logs)
-    by_test false rest = sum_by-cons in_log log (logs_by number (entry.N next) boxes logs) ∙ ap (λ (n : ℕ). in_log log + n) rest ∙ sym (sum_by-cons in_log log logs)
+listed_next number next boxes logs uid = listed_same number (entry.N next) boxes logs uid (λ rows. ap (count_by (λ (row : LogRow). row.map_uid == uid)) (rows_by_next next rows))
 
 -- the rows of a mailbox rise
 rows_rise : (number : ℕ) (boxes : List MapBox) (logs : List (List BoxEntry)) (m : BoxMeaning) → meaning_numbered number boxes (map box_meaning logs) ≡ Some m → AllByRecursion AreBoxEntries logs → AllPairs RowsRise m.rows
@@ -189,9 +176,11 @@ accounted_by_box_entry number (entry.N n) boxes logs m due leak rows good at fit
     All-weaker (IsAccounted due leak logs) (IsAccounted due leak (logs_by number (entry.N n) boxes logs)) (λ row a. same_due due leak logs (logs_by number (entry.N n) boxes logs) row (listed_next number n boxes logs row.uid) a) rows all
 accounted_by_box_entry number (entry.F u f) boxes logs m due leak rows good at fits held all =
     All-weaker (IsAccounted due leak logs) (IsAccounted due leak (logs_by number (entry.F u f) boxes logs)) (λ row a. same_due due leak logs (logs_by number (entry.F u f) boxes logs) row (listed_flagged number u f boxes logs row.uid) a) rows all
-accounted_by_box_entry number (entry.A u f t z k g) boxes logs m due leak rows good at fits held all =
-    All-weaker (IsAccounted due leak logs) (IsAccounted (less_due (k ∷ []) due) leak (logs_by number (entry.A u f t z k g) boxes logs))
-    (λ row a. added_due due leak logs (logs_by number (entry.A u f t z k g) boxes logs) row k (listed_added number u f t z k g boxes logs m row.uid at) held a) rows all
+accounted_by_box_entry number (entry.K u ws) boxes logs m due leak rows good at fits held all =
+    All-weaker (IsAccounted due leak logs) (IsAccounted due leak (logs_by number (entry.K u ws) boxes logs)) (λ row a. same_due due leak logs (logs_by number (entry.K u ws) boxes logs) row (listed_worded number u ws boxes logs row.uid) a) rows all
+accounted_by_box_entry number (entry.A u f t z k g ws) boxes logs m due leak rows good at fits held all =
+    All-weaker (IsAccounted due leak logs) (IsAccounted (less_due (k ∷ []) due) leak (logs_by number (entry.A u f t z k g ws) boxes logs))
+    (λ row a. added_due due leak logs (logs_by number (entry.A u f t z k g ws) boxes logs) row k (listed_added number u f t z k g ws boxes logs m row.uid at) held a) rows all
 accounted_by_box_entry number (entry.R u) boxes logs m due leak rows good at fits held all =
     let listed : LogRow = fits.0 in
     subst (λ (d : ℕ → ℕ). All (IsAccounted d leak (logs_by number (entry.R u) boxes logs)) rows) (sym (removed_by_row due m u listed fits.1))

@@ -30,6 +30,7 @@ listed_as a b m row x s h = record {
   found = h.found;
   same = h.same;
   octets = kept_as a b h.entry h.entry x.octets s (count_itself h.entry) h.octets;
+  words = h.words;
 }
 
 all_listed_as : (a b : Files) (m : MapMeaning) (rows : List LogRow) (xs : List ListedMessage) → SameStored a b → AreListed a m rows xs → AreListed b m rows xs
@@ -47,21 +48,31 @@ listed_append image m (row ∷ rows) more (x ∷ xs) ys h k = (h.0, listed_appen
 -- an entry removes a row where it removes its message
 removed_alike : (image : Files) (m : MapMeaning) (e : BoxEntry) (row : LogRow) (x : ListedMessage) → IsListed image m row x → message_removed e x ≡ row_removed e row
 removed_alike image m (entry.N n) row x h = refl
-removed_alike image m (entry.A u f t z k g) row x h = refl
+removed_alike image m (entry.A u f t z k g ws) row x h = refl
 removed_alike image m (entry.F u f) row x h = refl
+removed_alike image m (entry.K u ws) row x h = refl
 removed_alike image m (entry.R u) row x h = ap (λ (n : ℕ). u.0 == n) h.uid
 
 -- and changes it alike
-flagged_alike : (image : Files) (m : MapMeaning) (t : Bool) (flags : ℕ) (row : LogRow) (x : ListedMessage) → IsListed image m row x → IsListed image m (if t then record row { flags = flags } else row) (if t then record x { flags = flags } else x)
-flagged_alike image m true flags row x h = record { uid = h.uid; flags = refl; time = h.time; guid = h.guid; size = h.size; entry = h.entry; found = h.found; same = h.same; octets = h.octets }
-flagged_alike image m false flags row x h = h
+either_alike : (image : Files) (m : MapMeaning) (t : Bool) (row other : LogRow) (x y : ListedMessage) → IsListed image m row x → IsListed image m other y → IsListed image m (if t then other else row) (if t then y else x)
+either_alike image m true row other x y h k = k
+either_alike image m false row other x y h k = h
+
+flagged_alike : (image : Files) (m : MapMeaning) (flags : ℕ) (row : LogRow) (x : ListedMessage) → IsListed image m row x → IsListed image m (record row { flags = flags }) (record x { flags = flags })
+flagged_alike image m flags row x h = record { uid = h.uid; flags = refl; time = h.time; guid = h.guid; size = h.size; entry = h.entry; found = h.found; same = h.same; octets = h.octets; words = h.words }
+
+worded_alike : (image : Files) (m : MapMeaning) (words : List (List ℕ)) (row : LogRow) (x : ListedMessage) → IsListed image m row x → IsListed image m (record row { words = words }) (record x { words = words })
+worded_alike image m words row x h = record { uid = h.uid; flags = h.flags; time = h.time; guid = h.guid; size = h.size; entry = h.entry; found = h.found; same = h.same; octets = h.octets; words = refl }
 
 changed_alike : (image : Files) (m : MapMeaning) (e : BoxEntry) (row : LogRow) (x : ListedMessage) → IsListed image m row x → IsListed image m (row_changed e row) (message_changed e x)
 changed_alike image m (entry.N n) row x h = h
-changed_alike image m (entry.A u f t z k g) row x h = h
+changed_alike image m (entry.A u f t z k g ws) row x h = h
 changed_alike image m (entry.F u f) row x h =
     subst (λ (t : Bool). IsListed image m (row_changed (entry.F u f) row) (if t then record x { flags = f } else x)) (ap (λ (n : ℕ). u.0 == n) (sym h.uid))
-    (flagged_alike image m (u.0 == row.uid) f row x h)
+    (either_alike image m (u.0 == row.uid) row (record row { flags = f }) x (record x { flags = f }) h (flagged_alike image m f row x h))
+changed_alike image m (entry.K u ws) row x h =
+    subst (λ (t : Bool). IsListed image m (row_changed (entry.K u ws) row) (if t then record x { words = ws } else x)) (ap (λ (n : ℕ). u.0 == n) (sym h.uid))
+    (either_alike image m (u.0 == row.uid) row (record row { words = ws }) x (record x { words = ws }) h (worded_alike image m ws row x h))
 changed_alike image m (entry.R u) row x h = h
 
 kept_rows : BoxEntry → List LogRow → List LogRow

@@ -1,12 +1,12 @@
 -- References and counts, with an entry more: how many listed messages have a GUID, and that counts stay at least these.
 use Rattle.model_appends.proofs.Common.{◌≡◌, ◌≤◌, ◌+◌, ◌==◌, ℕ, Bool, true, false, not, cond, if◌then◌else◌, List, [], ◌∷◌, ◌++◌, map, filter, count_by, sum_by, Option, Some, None, All, Contains, refl, bytes_eq, sym, ◌∙◌, ap, arith, All-contains, All-head, sum_by-cons, sum_by-append, Files, Uid}
-use Rattle.model_appends.proofs.Common.{MapUid, Guid, BoxEntry, MapEntry, ListedMessage, Mailbox, Lists, refs_of, empty_mailbox, BoxInRange, only_changes, equal_is, equal_yes, map_sound, LogRow, row_made, MapRecord, MapBox, MapMeaning, map_meaning, record_changed, record_of, count_of, box_made}
+use Rattle.model_appends.proofs.Common.{MapUid, Guid, BoxEntry, rows_by, MapEntry, ListedMessage, Mailbox, Lists, refs_of, empty_mailbox, BoxInRange, only_changes, equal_is, equal_yes, map_sound, LogRow, row_made, MapRecord, MapBox, MapMeaning, map_meaning, record_changed, record_of, count_of, box_made}
 use Rattle.model_appends.proofs.Common.{IsSoundMap, found_one, text_is, at_uid, count_is, AreGoodLogs, HasItsRecord, IsCounted, Opens, listed_of, AreListed, StandsBy, bit, message_made, lists_by, logs_by, OnlyAdds, logs_made}
 use Rattle.std.proofs.Common.{append-nil}
 use Rattle.mdbox_base.specs.declared.entries.BoxEntry.TheVariants as entry
 use Rattle.model_meaning.proofs.AppliedLemmas.{only_adds, leaves}
 use Rattle.model_store.proofs.OpeningSafeLemmas.{have_records, unlisted, opens_safe, listed_are_refs}
-use Rattle.model_appends.specs.Appending.{IsBoxAppend, message_changed, mailbox_by, FitsIn}
+use Rattle.model_appends.specs.Appending.{IsBoxAppend, message_changed, message_rules, mailbox_by, FitsIn}
 use Rattle.model_appends.specs.MapAppending.{lists_made}
 use Rattle.model_appends.proofs.AmountLemmas.{listed_added, listed_made}
 use Rattle.model_appends.proofs.AppendFileLemmas.{SameButCount}
@@ -15,32 +15,48 @@ use Rattle.model_appends.proofs.AppendMapOpenLemmas.{found_added, same_record}
 
 -- ---- references by the entries of a mailbox log
 
-flag_count : (guid : List ℕ) (u : Uid) (flags : ℕ) (xs : List ListedMessage) → count_by (λ m. bytes_eq m.guid guid) (map (message_changed (entry.F u flags)) xs) ≡ count_by (λ m. bytes_eq m.guid guid) xs
-flag_count guid u flags [] = refl
-flag_count guid u flags (x ∷ xs) =
-    sum_by-cons (λ (m : ListedMessage). cond (bytes_eq m.guid guid) 1 0) (message_changed (entry.F u flags) x) (map (message_changed (entry.F u flags)) xs)
-    ∙ added _ _ _ _ (one (u.0 == x.uid)) (flag_count guid u flags xs) ∙ sym (sum_by-cons (λ (m : ListedMessage). cond (bytes_eq m.guid guid) 1 0) x xs)
-  where
-    added : (a b c d : ℕ) → a ≡ b → c ≡ d → a + c ≡ b + d
-    added a b c d p q = cc (p, q)
-
-    one : (t : Bool) → bit (bytes_eq (if t then record x { flags = flags } else x).guid guid) ≡ bit (bytes_eq x.guid guid)
-    one true = refl
-    one false = refl
-
-pub refs_flagged : (number : ℕ) (octets : List ℕ) (u : Uid) (f : ℕ) (lists : Lists) (guid : List ℕ) → refs_of (lists_by number octets (entry.F u f) lists) guid ≡ refs_of lists guid
-refs_flagged number octets u f [] guid = refl
-refs_flagged number octets u f (x ∷ xs) guid = by_test (x.number == number) (refs_flagged number octets u f xs guid)
+-- An entry behind which each mailbox has as many messages with this GUID.
+refs_same : (number : ℕ) (octets : List ℕ) (e : BoxEntry) (lists : Lists) (guid : List ℕ)
+    → ((xs : List ListedMessage) → count_by (λ y. bytes_eq y.guid guid) (rows_by (message_rules octets) e xs) ≡ count_by (λ y. bytes_eq y.guid guid) xs) → refs_of (lists_by number octets e lists) guid ≡ refs_of lists guid
+refs_same number octets e [] guid same = refl
+refs_same number octets e (x ∷ xs) guid same = by_test (x.number == number) (refs_same number octets e xs guid same)
   where
     in_box : Mailbox → ℕ
     in_box m = count_by (λ y. bytes_eq y.guid guid) m.messages
 
-    here : in_box (mailbox_by octets (entry.F u f) x) ≡ in_box x
-    here = ap (count_by (λ (y : ListedMessage). bytes_eq y.guid guid)) (only_changes (message_changed (entry.F u f)) x.messages) ∙ flag_count guid u f x.messages
+    here : in_box (mailbox_by octets e x) ≡ in_box x
+    here = same x.messages
 
-    by_test : (t : Bool) → refs_of (lists_by number octets (entry.F u f) xs) guid ≡ refs_of xs guid → refs_of (cond t (mailbox_by octets (entry.F u f) x ∷ xs) (x ∷ lists_by number octets (entry.F u f) xs)) guid ≡ refs_of (x ∷ xs) guid
-    by_test true rest = sum_by-cons in_box (mailbox_by octets (entry.F u f) x) xs ∙ ap (λ (n : ℕ). n + sum_by in_box xs) here ∙ sym (sum_by-cons in_box x xs)
-    by_test false rest = sum_by-cons in_box x (lists_by number octets (entry.F u f) xs) ∙ ap (λ (n : ℕ). in_box x + n) rest ∙ sym (sum_by-cons in_box x xs)
+    by_test : (t : Bool) → refs_of (lists_by number octets e xs) guid ≡ refs_of xs guid → refs_of (cond t (mailbox_by octets e x ∷ xs) (x ∷ lists_by number octets e xs)) guid ≡ refs_of (x ∷ xs) guid
+    by_test true rest = sum_by-cons in_box (mailbox_by octets e x) xs ∙ ap (λ (n : ℕ). n + sum_by in_box xs) here ∙ sym (sum_by-cons in_box x xs)
+    by_test false rest = sum_by-cons in_box x (lists_by number octets e xs) ∙ ap (λ (n : ℕ). in_box x + n) rest ∙ sym (sum_by-cons in_box x xs)
+
+pub refs_next : (number : ℕ) (octets : List ℕ) (next : ℕ) (lists : Lists) (guid : List ℕ) → refs_of (lists_by number octets (entry.N next) lists) guid ≡ refs_of lists guid
+refs_next number octets next lists guid = refs_same number octets (entry.N next) lists guid (λ xs. ap (count_by (λ (y : ListedMessage). bytes_eq y.guid guid)) (leaves xs))
+
+-- one that changes messages and keeps their GUIDs
+messages_changed_count : (guid : List ℕ) (e : BoxEntry) (xs : List ListedMessage) → ((x : ListedMessage) → (message_changed e x).guid ≡ x.guid) → count_by (λ m. bytes_eq m.guid guid) (map (message_changed e) xs) ≡ count_by (λ m. bytes_eq m.guid guid) xs
+messages_changed_count guid e [] same = refl
+messages_changed_count guid e (x ∷ xs) same =
+    sum_by-cons (λ (m : ListedMessage). cond (bytes_eq m.guid guid) 1 0) (message_changed e x) (map (message_changed e) xs)
+    ∙ added _ _ _ _ (ap (λ (own : List ℕ). bit (bytes_eq own guid)) (same x)) (messages_changed_count guid e xs same) ∙ sym (sum_by-cons (λ (m : ListedMessage). cond (bytes_eq m.guid guid) 1 0) x xs)
+  where
+    added : (a b c d : ℕ) → a ≡ b → c ≡ d → a + c ≡ b + d
+    added a b c d p q = cc (p, q)
+
+either_guid : (t : Bool) (x y : ListedMessage) → y.guid ≡ x.guid → (if t then y else x).guid ≡ x.guid
+either_guid true x y same = same
+either_guid false x y same = refl
+
+pub refs_flagged : (number : ℕ) (octets : List ℕ) (u : Uid) (f : ℕ) (lists : Lists) (guid : List ℕ) → refs_of (lists_by number octets (entry.F u f) lists) guid ≡ refs_of lists guid
+refs_flagged number octets u f lists guid =
+    refs_same number octets (entry.F u f) lists guid (λ xs. ap (count_by (λ (y : ListedMessage). bytes_eq y.guid guid)) (only_changes (message_changed (entry.F u f)) xs)
+    ∙ messages_changed_count guid (entry.F u f) xs (λ x. either_guid (u.0 == x.uid) x (record x { flags = f }) refl))
+
+pub refs_worded : (number : ℕ) (octets : List ℕ) (u : Uid) (words : List (List ℕ)) (lists : Lists) (guid : List ℕ) → refs_of (lists_by number octets (entry.K u words) lists) guid ≡ refs_of lists guid
+refs_worded number octets u words lists guid =
+    refs_same number octets (entry.K u words) lists guid (λ xs. ap (count_by (λ (y : ListedMessage). bytes_eq y.guid guid)) (only_changes (message_changed (entry.K u words)) xs)
+    ∙ messages_changed_count guid (entry.K u words) xs (λ x. either_guid (u.0 == x.uid) x (record x { words = words }) refl))
 
 unchanged : (xs : List ListedMessage) → map (λ m. m) xs ≡ xs
 unchanged [] = refl
@@ -78,40 +94,26 @@ refs_removed number octets u (x ∷ xs) guid = by_test (x.number == number) (ref
     by_test true rest = let a = sum_by-cons in_box (mailbox_by octets (entry.R u) x) xs in let b = sum_by-cons in_box x xs in omega (arith, here, a, b)
     by_test false rest = let a = sum_by-cons in_box x (lists_by number octets (entry.R u) xs) in let b = sum_by-cons in_box x xs in omega (arith, rest, a, b)
 
-pub refs_next : (number : ℕ) (octets : List ℕ) (next : ℕ) (lists : Lists) (guid : List ℕ) → refs_of (lists_by number octets (entry.N next) lists) guid ≡ refs_of lists guid
-refs_next number octets next [] guid = refl
-refs_next number octets next (x ∷ xs) guid = by_test (x.number == number) (refs_next number octets next xs guid)
-  where
-    in_box : Mailbox → ℕ
-    in_box m = count_by (λ y. bytes_eq y.guid guid) m.messages
-
-    here : in_box (mailbox_by octets (entry.N next) x) ≡ in_box x
-    here = ap (count_by (λ (y : ListedMessage). bytes_eq y.guid guid)) (leaves x.messages)
-
-    by_test : (t : Bool) → refs_of (lists_by number octets (entry.N next) xs) guid ≡ refs_of xs guid → refs_of (cond t (mailbox_by octets (entry.N next) x ∷ xs) (x ∷ lists_by number octets (entry.N next) xs)) guid ≡ refs_of (x ∷ xs) guid
-    by_test true rest = sum_by-cons in_box (mailbox_by octets (entry.N next) x) xs ∙ ap (λ (n : ℕ). n + sum_by in_box xs) here ∙ sym (sum_by-cons in_box x xs)
-    by_test false rest = sum_by-cons in_box x (lists_by number octets (entry.N next) xs) ∙ ap (λ (n : ℕ). in_box x + n) rest ∙ sym (sum_by-cons in_box x xs)
-
-pub refs_added : (number : ℕ) (octets : List ℕ) (u : Uid) (flags time size : ℕ) (k : MapUid) (g : Guid) (lists : Lists) (guid : List ℕ) → refs_of (lists_by number octets (entry.A u flags time size k g) lists) guid ≤ refs_of lists guid + bit (bytes_eq g.0 guid)
-refs_added number octets u flags time size k g [] guid = omega arith
-refs_added number octets u flags time size k g (x ∷ xs) guid = by_test (x.number == number) (refs_added number octets u flags time size k g xs guid)
+pub refs_added : (number : ℕ) (octets : List ℕ) (u : Uid) (flags time size : ℕ) (k : MapUid) (g : Guid) (words : List (List ℕ)) (lists : Lists) (guid : List ℕ) → refs_of (lists_by number octets (entry.A u flags time size k g words) lists) guid ≤ refs_of lists guid + bit (bytes_eq g.0 guid)
+refs_added number octets u flags time size k g words [] guid = omega arith
+refs_added number octets u flags time size k g words (x ∷ xs) guid = by_test (x.number == number) (refs_added number octets u flags time size k g words xs guid)
   where
     e : BoxEntry
-    e = entry.A u flags time size k g
+    e = entry.A u flags time size k g words
 
     made : ListedMessage
-    made = record { uid = u.0; flags = flags; time = time; guid = g.0; octets = octets }
+    made = record { uid = u.0; flags = flags; time = time; guid = g.0; octets = octets; words = words }
 
     in_box : Mailbox → ℕ
     in_box m = count_by (λ y. bytes_eq y.guid guid) m.messages
 
-    here : in_box (mailbox_by octets (entry.A u flags time size k g) x) ≡ in_box x + (0 + bit (bytes_eq g.0 guid))
+    here : in_box (mailbox_by octets (entry.A u flags time size k g words) x) ≡ in_box x + (0 + bit (bytes_eq g.0 guid))
     here = ap (count_by (λ (y : ListedMessage). bytes_eq y.guid guid)) (only_adds x.messages (made ∷ [])) ∙ sum_by-append (λ (y : ListedMessage). bit (bytes_eq y.guid guid)) x.messages (made ∷ [])
 
-    by_test : (t : Bool) → refs_of (lists_by number octets (entry.A u flags time size k g) xs) guid ≤ refs_of xs guid + bit (bytes_eq g.0 guid)
-        → refs_of (cond t (mailbox_by octets (entry.A u flags time size k g) x ∷ xs) (x ∷ lists_by number octets (entry.A u flags time size k g) xs)) guid ≤ refs_of (x ∷ xs) guid + bit (bytes_eq g.0 guid)
-    by_test true rest = let a = sum_by-cons in_box (mailbox_by octets (entry.A u flags time size k g) x) xs in let b = sum_by-cons in_box x xs in omega (arith, here, a, b)
-    by_test false rest = let a = sum_by-cons in_box x (lists_by number octets (entry.A u flags time size k g) xs) in let b = sum_by-cons in_box x xs in omega (arith, rest, a, b)
+    by_test : (t : Bool) → refs_of (lists_by number octets (entry.A u flags time size k g words) xs) guid ≤ refs_of xs guid + bit (bytes_eq g.0 guid)
+        → refs_of (cond t (mailbox_by octets (entry.A u flags time size k g words) x ∷ xs) (x ∷ lists_by number octets (entry.A u flags time size k g words) xs)) guid ≤ refs_of (x ∷ xs) guid + bit (bytes_eq g.0 guid)
+    by_test true rest = let a = sum_by-cons in_box (mailbox_by octets (entry.A u flags time size k g words) x) xs in let b = sum_by-cons in_box x xs in omega (arith, here, a, b)
+    by_test false rest = let a = sum_by-cons in_box x (lists_by number octets (entry.A u flags time size k g words) xs) in let b = sum_by-cons in_box x xs in omega (arith, rest, a, b)
 
 -- ---- counts are enough for the lists that an entry gives
 
@@ -121,32 +123,33 @@ pub counts_by_box_entry : (files : Files) (store : List ℕ) (entries : List Map
     → (guid : List ℕ) → refs_of (lists_by number octets e lists) guid ≤ count_of (map_meaning store entries) guid
 counts_by_box_entry files store entries logs lists number octets (entry.N n) o s fits made counts guid = let a = refs_next number octets n lists guid in let b = (opens_safe files store entries logs lists o s).has_all.counts guid in omega (arith, a, b)
 counts_by_box_entry files store entries logs lists number octets (entry.F u f) o s fits made counts guid = let a = refs_flagged number octets u f lists guid in let b = (opens_safe files store entries logs lists o s).has_all.counts guid in omega (arith, a, b)
+counts_by_box_entry files store entries logs lists number octets (entry.K u ws) o s fits made counts guid = let a = refs_worded number octets u ws lists guid in let b = (opens_safe files store entries logs lists o s).has_all.counts guid in omega (arith, a, b)
 counts_by_box_entry files store entries logs lists number octets (entry.R u) o s fits made counts guid = let a = refs_removed number octets u lists guid in let b = (opens_safe files store entries logs lists o s).has_all.counts guid in omega (arith, a, b)
-counts_by_box_entry files store entries logs lists number octets (entry.A u f t z k g) o s fits made counts guid = by_test (bytes_eq g.0 guid) refl
+counts_by_box_entry files store entries logs lists number octets (entry.A u f t z k g ws) o s fits made counts guid = by_test (bytes_eq g.0 guid) refl
   where
     m : MapMeaning
     m = map_meaning store entries
 
-    by_test : (test : Bool) → bytes_eq g.0 guid ≡ test → refs_of (lists_by number octets (entry.A u f t z k g) lists) guid ≤ count_of m guid
+    by_test : (test : Bool) → bytes_eq g.0 guid ≡ test → refs_of (lists_by number octets (entry.A u f t z k g ws) lists) guid ≤ count_of m guid
     by_test false is =
-        let a = refs_added number octets u f t z k g lists guid in
+        let a = refs_added number octets u f t z k g ws lists guid in
         let b = (opens_safe files store entries logs lists o s).has_all.counts guid in
         let c : bit (bytes_eq g.0 guid) ≡ 0 = ap bit is in
         omega (arith, a, b, c)
     by_test true is =
-        let row : LogRow = record { uid = u.0; flags = f; time = t; size = z; map_uid = k.0; guid = g.0 } in
+        let row : LogRow = record { uid = u.0; flags = f; time = t; size = z; map_uid = k.0; guid = g.0; words = ws } in
         let its = All-head (HasItsRecord m) row [] made in
         let r : MapRecord = its.0 in
         let one = found_one (λ (r : MapRecord). r.uid == k.0) m.records r its.1 in
         let uid : r.uid ≡ k.0 = equal_is r.uid k.0 one.1 in
         let same : r.guid ≡ guid = its.2 ∙ text_is g.0 guid is in
         let sound : IsSoundMap m = map_sound store entries s.map_log.fit s.map_log.in_range in
-        let enough : listed_of (logs_by number (entry.A u f t z k g) m.boxes logs) r.uid ≤ r.count = All-contains (IsCounted (logs_by number (entry.A u f t z k g) m.boxes logs)) m.records r counts one.0 in
-        let more = listed_added number u f t z k g m.boxes logs fits.0 r.uid fits.1 in
+        let enough : listed_of (logs_by number (entry.A u f t z k g ws) m.boxes logs) r.uid ≤ r.count = All-contains (IsCounted (logs_by number (entry.A u f t z k g ws) m.boxes logs)) m.records r counts one.0 in
+        let more = listed_added number u f t z k g ws m.boxes logs fits.0 r.uid fits.1 in
         let b : bit (k.0 == r.uid) ≡ 1 = ap bit (equal_yes k.0 r.uid (sym uid)) in
         let listed : listed_of logs r.uid ≡ refs_of lists guid = listed_are_refs files store entries logs lists r o s one.0 ∙ ap (refs_of lists) same in
         let count : count_of m guid ≡ r.count = ap (count_of m) (sym same) ∙ count_is m r sound one.0 in
-        let a = refs_added number octets u f t z k g lists guid in
+        let a = refs_added number octets u f t z k g ws lists guid in
         let c : bit (bytes_eq g.0 guid) ≡ 1 = ap bit is in
         omega (arith, a, c, listed, count, more, b, enough)
 

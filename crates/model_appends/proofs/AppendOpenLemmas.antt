@@ -1,11 +1,10 @@
 -- Files open with one entry more in the log of a mailbox.
 use Rattle.model_appends.proofs.Common.{◌≡◌, ◌≢◌, ◌+◌, ◌==◌, ℕ, true, false, cond, Bool, if◌then◌else◌, List, [], ◌∷◌, ◌++◌, length, map, Some, All, count_by, sum_by, AllPairs, Contains, ◌<◌, refl, AllByRecursion, sym, ◌∙◌, subst, ap, arith, inl, inr, false≢true, All-append, All-weaker, All-head}
 use Rattle.model_appends.proofs.Common.{All-tail, All-contains, sum_by-cons, Files, Uid, MapEntry, BoxEntry, one_more, LogRow, BoxMeaning, row_made, row_rules, rows_after, box_meaning, BoxFits, MapBox, MapMeaning, map_meaning, box_text, BoxInRange, each_more, equal_is, equal_yes, IsSoundMap}
-use Rattle.model_appends.proofs.Common.{map_sound, HasBox, LiesInFile, IsThereWhole, meaning_numbered, AreBoxEntries, HasItsRecord, PassBoxes, listed_of, IsCounted, Opens, AreGoodLogs, pairs_head, pairs_tail, SameBut, HasOneMore, logs_by}
+use Rattle.model_appends.proofs.Common.{map_sound, HasBox, LiesInFile, IsThereWhole, meaning_numbered, AreBoxEntries, HasItsRecord, PassBoxes, listed_of, IsCounted, Opens, AreGoodLogs, only_changes, rows_by, pairs_head, pairs_tail, SameBut, HasOneMore, logs_by}
 use Rattle.std.proofs.Common.{suc}
 use Rattle.disk_model.specs.declared.name.FileName.TheVariants as file
 use Rattle.mdbox_base.specs.declared.entries.BoxEntry.TheVariants as entry
-use Rattle.model_meaning.proofs.AppliedLemmas.{rows_by_flagged}
 use Rattle.model_meaning.specs.BoxMeaning.{row_changed, box_applied}
 use Rattle.model_meaning.proofs.BoxLemmas.{box_more}
 use Rattle.model_meaning.proofs.FitLemmas.{box_fit_more}
@@ -56,10 +55,15 @@ box_more_good e in_range log fits h = (each_more BoxInRange log e h.0 in_range, 
 
 itself_has : (m : MapMeaning) (e : BoxEntry) (row : LogRow) → HasItsRecord m row → HasItsRecord m (row_changed e row)
 itself_has m (entry.N n) row h = h
-itself_has m (entry.A u f t z k g) row h = h
+itself_has m (entry.A u f t z k g ws) row h = h
 itself_has m (entry.F u f) row h = by_test (u.0 == row.uid)
   where
     by_test : (t : Bool) → HasItsRecord m (if t then record row { flags = f } else row)
+    by_test true = h
+    by_test false = h
+itself_has m (entry.K u ws) row h = by_test (u.0 == row.uid)
+  where
+    by_test : (t : Bool) → HasItsRecord m (if t then record row { words = ws } else row)
     by_test true = h
     by_test false = h
 itself_has m (entry.R u) row h = h
@@ -173,36 +177,46 @@ opens_by_box_entry a b store entries logs box e o there in_range fits made count
       instances = All-weaker (IsThereWhole a) (IsThereWhole b) (λ inst r. instances_as a b inst stored r) _ o.instances;
     }
 
--- ---- a flag changes no count
+-- ---- entries that change no count
 
-flagged_count : (uid : ℕ) (e : BoxEntry) (rows : List LogRow) → ((row : LogRow) → (row_changed e row).map_uid ≡ row.map_uid) → count_by (λ row. row.map_uid == uid) (map (row_changed e) rows) ≡ count_by (λ row. row.map_uid == uid) rows
-flagged_count uid e [] same = refl
-flagged_count uid e (row ∷ rows) same =
-    sum_by-cons (λ (o : LogRow). cond (o.map_uid == uid) 1 0) (row_changed e row) (map (row_changed e) rows)
-    ∙ added _ _ _ _ (ap (λ (n : ℕ). cond (n == uid) 1 0) (same row)) (flagged_count uid e rows same) ∙ sym (sum_by-cons (λ (o : LogRow). cond (o.map_uid == uid) 1 0) row rows)
-  where
-    added : (a b c d : ℕ) → a ≡ b → c ≡ d → a + c ≡ b + d
-    added a b c d p q = cc (p, q)
-
-flag_keeps : (u : Uid) (flags : ℕ) (row : LogRow) → (row_changed (entry.F u flags) row).map_uid ≡ row.map_uid
-flag_keeps u flags row = by_test (u.0 == row.uid)
-  where
-    by_test : (t : Bool) → (if t then record row { flags = flags } else row).map_uid ≡ row.map_uid
-    by_test true = refl
-    by_test false = refl
-
-pub listed_flagged : (number : ℕ) (u : Uid) (flags : ℕ) (boxes : List MapBox) (logs : List (List BoxEntry)) (uid : ℕ) → listed_of (logs_by number (entry.F u flags) boxes logs) uid ≡ listed_of logs uid
-listed_flagged number u flags [] [] uid = refl
-listed_flagged number u flags [] (log ∷ logs) uid = refl
-listed_flagged number u flags (box ∷ boxes) [] uid = refl
-listed_flagged number u flags (box ∷ boxes) (log ∷ logs) uid = by_test (box.number == number) (listed_flagged number u flags boxes logs uid)
+-- An entry behind which each log lists as many messages with this map uid.
+pub listed_same : (number : ℕ) (e : BoxEntry) (boxes : List MapBox) (logs : List (List BoxEntry)) (uid : ℕ) → ((rows : List LogRow) → count_by (λ row. row.map_uid == uid) (rows_by row_rules e rows) ≡ count_by (λ row. row.map_uid == uid) rows)
+    → listed_of (logs_by number e boxes logs) uid ≡ listed_of logs uid
+listed_same number e [] [] uid same = refl
+listed_same number e [] (log ∷ logs) uid same = refl
+listed_same number e (box ∷ boxes) [] uid same = refl
+listed_same number e (box ∷ boxes) (log ∷ logs) uid same = by_test (box.number == number) (listed_same number e boxes logs uid same)
   where
     in_log : List BoxEntry → ℕ
     in_log l = count_by (λ row. row.map_uid == uid) (rows_after l)
 
-    here : in_log (log ++ entry.F u flags ∷ []) ≡ in_log log
-    here = ap (count_by (λ (row : LogRow). row.map_uid == uid)) (one_more row_rules log (entry.F u flags) ∙ rows_by_flagged u flags (rows_after log)) ∙ flagged_count uid (entry.F u flags) (rows_after log) (flag_keeps u flags)
+    here : in_log (log ++ e ∷ []) ≡ in_log log
+    here = ap (count_by (λ (row : LogRow). row.map_uid == uid)) (one_more row_rules log e) ∙ same (rows_after log)
 
-    by_test : (t : Bool) → listed_of (logs_by number (entry.F u flags) boxes logs) uid ≡ listed_of logs uid → listed_of (cond t ((log ++ entry.F u flags ∷ []) ∷ logs) (log ∷ logs_by number (entry.F u flags) boxes logs)) uid ≡ listed_of (log ∷ logs) uid
-    by_test true rest = sum_by-cons in_log (log ++ entry.F u flags ∷ []) logs ∙ ap (λ (n : ℕ). n + sum_by in_log logs) here ∙ sym (sum_by-cons in_log log logs)
-    by_test false rest = sum_by-cons in_log log (logs_by number (entry.F u flags) boxes logs) ∙ ap (λ (n : ℕ). in_log log + n) rest ∙ sym (sum_by-cons in_log log logs)
+    by_test : (t : Bool) → listed_of (logs_by number e boxes logs) uid ≡ listed_of logs uid → listed_of (cond t ((log ++ e ∷ []) ∷ logs) (log ∷ logs_by number e boxes logs)) uid ≡ listed_of (log ∷ logs) uid
+    by_test true rest = sum_by-cons in_log (log ++ e ∷ []) logs ∙ ap (λ (n : ℕ). n + sum_by in_log logs) here ∙ sym (sum_by-cons in_log log logs)
+    by_test false rest = sum_by-cons in_log log (logs_by number e boxes logs) ∙ ap (λ (n : ℕ). in_log log + n) rest ∙ sym (sum_by-cons in_log log logs)
+
+-- one that changes rows and keeps their map uids
+rows_changed_count : (uid : ℕ) (e : BoxEntry) (rows : List LogRow) → ((row : LogRow) → (row_changed e row).map_uid ≡ row.map_uid) → count_by (λ row. row.map_uid == uid) (map (row_changed e) rows) ≡ count_by (λ row. row.map_uid == uid) rows
+rows_changed_count uid e [] same = refl
+rows_changed_count uid e (row ∷ rows) same =
+    sum_by-cons (λ (o : LogRow). cond (o.map_uid == uid) 1 0) (row_changed e row) (map (row_changed e) rows)
+    ∙ added _ _ _ _ (ap (λ (n : ℕ). cond (n == uid) 1 0) (same row)) (rows_changed_count uid e rows same) ∙ sym (sum_by-cons (λ (o : LogRow). cond (o.map_uid == uid) 1 0) row rows)
+  where
+    added : (a b c d : ℕ) → a ≡ b → c ≡ d → a + c ≡ b + d
+    added a b c d p q = cc (p, q)
+
+either_map_uid : (t : Bool) (row other : LogRow) → other.map_uid ≡ row.map_uid → (if t then other else row).map_uid ≡ row.map_uid
+either_map_uid true row other same = same
+either_map_uid false row other same = refl
+
+pub listed_flagged : (number : ℕ) (u : Uid) (flags : ℕ) (boxes : List MapBox) (logs : List (List BoxEntry)) (uid : ℕ) → listed_of (logs_by number (entry.F u flags) boxes logs) uid ≡ listed_of logs uid
+listed_flagged number u flags boxes logs uid =
+    listed_same number (entry.F u flags) boxes logs uid (λ rows. ap (count_by (λ (row : LogRow). row.map_uid == uid)) (only_changes (row_changed (entry.F u flags)) rows)
+    ∙ rows_changed_count uid (entry.F u flags) rows (λ row. either_map_uid (u.0 == row.uid) row (record row { flags = flags }) refl))
+
+pub listed_worded : (number : ℕ) (u : Uid) (words : List (List ℕ)) (boxes : List MapBox) (logs : List (List BoxEntry)) (uid : ℕ) → listed_of (logs_by number (entry.K u words) boxes logs) uid ≡ listed_of logs uid
+listed_worded number u words boxes logs uid =
+    listed_same number (entry.K u words) boxes logs uid (λ rows. ap (count_by (λ (row : LogRow). row.map_uid == uid)) (only_changes (row_changed (entry.K u words)) rows)
+    ∙ rows_changed_count uid (entry.K u words) rows (λ row. either_map_uid (u.0 == row.uid) row (record row { words = words }) refl))

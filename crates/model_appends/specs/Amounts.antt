@@ -31,13 +31,13 @@ less_due uids due uid = due uid - bit (has_map_uid uid uids)
 
 -- An added message ends a hold of its record, a removed one begins to be owed. The meaning is that of the log before.
 abbrev pub due_by_box : BoxMeaning → BoxEntry → (ℕ → ℕ) → ℕ → ℕ
-due_by_box m (box.A uid flags time size map_uid guid) due = less_due (map_uid ∷ []) due
+due_by_box m (box.A uid flags time size map_uid guid words) due = less_due (map_uid ∷ []) due
 due_by_box m (box.R uid) due = option_map_or (λ row. more_due 1 row.map_uid due) (row_at m uid.0) due
 due_by_box m entry due = due
 
 -- a message can be added where its record is held
 abbrev pub HoldsAdded : BoxEntry → (ℕ → ℕ) → Type 0
-HoldsAdded (box.A uid flags time size map_uid guid) due = 1 ≤ due map_uid.0
+HoldsAdded (box.A uid flags time size map_uid guid words) due = 1 ≤ due map_uid.0
 HoldsAdded entry due = Unit {0}
 
 -- ---- entries of the map log

@@ -47,7 +47,7 @@ LeavesAsRead name disk = (left : Option (List ℕ)) → MayLeave (disk name) lef
 
 -- How an entry of a mailbox log changes a message, as it changes a row: an Added makes one, of these octets.
 abbrev pub message_made : List ℕ → BoxEntry → List ListedMessage
-message_made octets (box.A uid flags time size map_uid guid) = record { uid = uid.0; flags = flags; time = time; guid = guid.0; octets = octets } ∷ []
+message_made octets (box.A uid flags time size map_uid guid words) = record { uid = uid.0; flags = flags; time = time; guid = guid.0; octets = octets; words = words } ∷ []
 message_made octets entry = []
 
 abbrev pub message_removed : BoxEntry → ListedMessage → Bool
@@ -56,6 +56,7 @@ message_removed entry message = false
 
 abbrev pub message_changed : BoxEntry → ListedMessage → ListedMessage
 message_changed (box.F uid flags) message = if uid.0 == message.uid then record message { flags = flags } else message
+message_changed (box.K uid words) message = if uid.0 == message.uid then record message { words = words } else message
 message_changed entry message = message
 
 abbrev pub message_rules : List ℕ → Rules BoxEntry ListedMessage

@@ -7,7 +7,7 @@ ghost use Rattle.mdbox_base.specs.declared.ids.Guid.{Guid};
 ghost use Rattle.mdbox_base.specs.declared.ids.MapUid.{MapUid};
 ghost use Rattle.mdbox_base.specs.declared.ids.Uid.{Uid};
 ghost use Rattle.mdbox_base.specs.declared.entries.BoxEntry.{BoxEntry};
-ghost use Rattle.mdbox_base.specs.declared.entries.BoxEntry.TheVariants.{A, F, N, R};
+ghost use Rattle.mdbox_base.specs.declared.entries.BoxEntry.TheVariants.{A, F, K, N, R};
 ghost use Rattle.mdbox_base.specs.declared.entries.MapEntry.{MapEntry};
 ghost use Rattle.model_lists.specs.Lists.{Lists, refs_of};
 ghost use Rattle.model_meaning.specs.BoxMeaning.{BoxMeaning, row_made, box_meaning, BoxFits};
@@ -44,15 +44,16 @@ pub fn entries_are_accounted()
     ensures counted { (due leak : ℕ → ℕ) (logs : List (List BoxEntry)) (rows : List MapRecord) → All (IsAccounted due leak logs) rows → All (IsCounted logs) rows }
 {}
 
-/// How many listed messages have a GUID, with an entry more: as many behind a Next and a Flagged, no more behind a Removed, at
-/// most one more of its own GUID behind an Added, as many where a mailbox is made or renamed, and fewer by its amounts where one
-/// is deleted.
+/// How many listed messages have a GUID, with an entry more: as many behind a Next, a Flagged and a Keywords, no more behind a
+/// Removed, at most one more of its own GUID behind an Added, as many where a mailbox is made or renamed, and fewer by its
+/// amounts where one is deleted.
 pub fn entries_change_references()
     ensures next { (number : ℕ) (octets : List ℕ) (next : ℕ) (lists : Lists) (guid : List ℕ) → refs_of (lists_by number octets (N next) lists) guid ≡ refs_of lists guid }
     ensures flagged { (number : ℕ) (octets : List ℕ) (uid : Uid) (flags : ℕ) (lists : Lists) (guid : List ℕ) → refs_of (lists_by number octets (F uid flags) lists) guid ≡ refs_of lists guid }
+    ensures worded { (number : ℕ) (octets : List ℕ) (uid : Uid) (words : List (List ℕ)) (lists : Lists) (guid : List ℕ) → refs_of (lists_by number octets (K uid words) lists) guid ≡ refs_of lists guid }
     ensures removed { (number : ℕ) (octets : List ℕ) (uid : Uid) (lists : Lists) (guid : List ℕ) → refs_of (lists_by number octets (R uid) lists) guid ≤ refs_of lists guid }
-    ensures added { (number : ℕ) (octets : List ℕ) (uid : Uid) (flags time size : ℕ) (map_uid : MapUid) (own : Guid) (lists : Lists) (guid : List ℕ)
-        → refs_of (lists_by number octets (A uid flags time size map_uid own) lists) guid ≤ refs_of lists guid + bit (bytes_eq own.0 guid) }
+    ensures added { (number : ℕ) (octets : List ℕ) (uid : Uid) (flags time size : ℕ) (map_uid : MapUid) (own : Guid) (words : List (List ℕ)) (lists : Lists) (guid : List ℕ)
+        → refs_of (lists_by number octets (A uid flags time size map_uid own words) lists) guid ≤ refs_of lists guid + bit (bytes_eq own.0 guid) }
     ensures made { (e : MapEntry) (lists : Lists) (guid : List ℕ) → refs_of (lists_made e lists) guid ≡ refs_of lists guid }
     ensures deleted { (files : Files) (store : List ℕ) (entries : List MapEntry) (logs : List (List BoxEntry)) (lists : Lists) (mailbox : BoxNo) (amounts : List MapCount) (row : MapRecord) → Opens files store entries logs
         → StandsBy files store entries lists → AreGoodLogs store entries logs → NamesListed (X mailbox amounts) (map_meaning store entries).boxes (map box_meaning logs) → Contains (map_meaning store entries).records row

@@ -31,7 +31,7 @@ one_if b = cond b 1 0
 -- ---- rows
 
 abbrev pub row_for : ℕ → MappedMessage → LogRow
-row_for uid t = record { uid = uid; flags = 0; time = t.message.time; size = length t.message.octets; map_uid = t.uid; guid = t.message.guid }
+row_for uid t = record { uid = uid; flags = 0; time = t.message.time; size = length t.message.octets; map_uid = t.uid; guid = t.message.guid; words = [] }
 
 abbrev pub rows_from : ℕ → List MappedMessage → List LogRow
 rows_from uid [] = []
@@ -61,11 +61,11 @@ added_after before uid [] rows r n h room l = record {
   next_is = ap next_after (append-nil before) ∙ (n ∙ (omega arith));
 }
 added_after before uid (t ∷ ts) rows r n h room l =
-    let e : BoxEntry = box.A (record { 0 = uid }) 0 t.message.time (length t.message.octets) (record { 0 = t.uid }) (record { 0 = t.message.guid }) in
+    let e : BoxEntry = box.A (record { 0 = uid }) 0 t.message.time (length t.message.octets) (record { 0 = t.uid }) (record { 0 = t.message.guid }) [] in
     let m = box_more before e in
     let can = All-head CanBeAdded t ts h in
     let rows_then : rows_after (before ++ e ∷ []) ≡ rows ++ row_for uid t ∷ [] =
-    ap (λ (x : BoxMeaning). x.rows) m ∙ (rows_by_added (record { 0 = uid }) 0 t.message.time (length t.message.octets) (record { 0 = t.uid }) (record { 0 = t.message.guid }) (rows_after before) ∙ ap (λ (rs : List LogRow). rs ++ row_for uid t ∷ []) r) in
+    ap (λ (x : BoxMeaning). x.rows) m ∙ (rows_by_added (record { 0 = uid }) 0 t.message.time (length t.message.octets) (record { 0 = t.uid }) (record { 0 = t.message.guid }) [] (rows_after before) ∙ ap (λ (rs : List LogRow). rs ++ row_for uid t ∷ []) r) in
     let next_then : next_after (before ++ e ∷ []) ≡ uid + 1 = (let k : next_after (before ++ e ∷ []) ≡ max (next_after before) (uid + 1) = ap (λ (x : BoxMeaning). x.next) m in omega (arith, k, n)) in
     let one = length-append rows (row_for uid t ∷ []) in
     let many = ap (λ (rs : List LogRow). length rs) r in
@@ -74,8 +74,8 @@ added_after before uid (t ∷ ts) rows r n h room l =
     let rest = added_after (before ++ e ∷ []) (uid + 1) ts (rows ++ row_for uid t ∷ []) rows_then next_then (All-tail CanBeAdded t ts h) (omega (arith, one, room)) (omega (arith, l)) in
     let joined = append_assoc before (e ∷ []) (added_from (uid + 1) ts) in
     record {
-      fit = ((omega (arith, n), omega (arith, l), omega arith, s, omega (arith, many, room)), rest.fit);
-      in_range = ((omega (arith, l), omega arith, can.time, omega (arith, s), c, can.guid), rest.in_range);
+      fit = ((omega (arith, n), omega (arith, l), omega arith, s, omega (arith, many, room), no_words), rest.fit);
+      in_range = ((omega (arith, l), omega arith, can.time, omega (arith, s), c, can.guid, omega arith, tt), rest.in_range);
       rows_are = sym (ap rows_after joined) ∙ (rest.rows_are ∙ append_assoc rows (row_for uid t ∷ []) (rows_from (uid + 1) ts));
       next_is = sym (ap next_after joined) ∙ (rest.next_is ∙ (omega arith));
     }
@@ -163,7 +163,7 @@ pub listed_all : (image : Files) (m : MapMeaning) (uid : ℕ) (ts : List MappedM
 listed_all image m uid [] h = tt
 listed_all image m uid (t ∷ ts) h =
     let a = All-head (IsMapped image m) t ts h in
-    (record { uid = refl; flags = refl; time = refl; guid = refl; size = refl; entry = record_for t.uid t.message; found = a.found; same = refl; octets = a.stores }, listed_all image m (uid + 1) ts (All-tail (IsMapped image m) t ts h))
+    (record { uid = refl; flags = refl; time = refl; guid = refl; size = refl; entry = record_for t.uid t.message; found = a.found; same = refl; octets = a.stores; words = refl }, listed_all image m (uid + 1) ts (All-tail (IsMapped image m) t ts h))
 
 -- what is known of every mapped message
 pub record AllMapped (files image : Files) (m : MapMeaning) (taken : List TakenMessage) : Type 0 where

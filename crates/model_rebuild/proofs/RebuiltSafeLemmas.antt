@@ -42,7 +42,7 @@ of_guid guid t = one_if (bytes_eq t.guid guid)
 listed_counted : (guid : List ℕ) (uid : ℕ) (ts : List TakenMessage) → count_by (λ (m : ListedMessage). bytes_eq m.guid guid) (listed_from uid ts) ≡ sum_by (of_guid guid) ts
 listed_counted guid uid [] = refl
 listed_counted guid uid (t ∷ ts) =
-    let a = sum_by-cons (λ (m : ListedMessage). one_if (bytes_eq m.guid guid)) (record { uid = uid; flags = 0; time = t.time; guid = t.guid; octets = t.octets }) (listed_from (uid + 1) ts) in
+    let a = sum_by-cons (λ (m : ListedMessage). one_if (bytes_eq m.guid guid)) (record { uid = uid; flags = 0; time = t.time; guid = t.guid; octets = t.octets; words = [] }) (listed_from (uid + 1) ts) in
     let b = sum_by-cons (of_guid guid) t ts in
     let rest = listed_counted guid (uid + 1) ts in
     omega (arith, a, b, rest)

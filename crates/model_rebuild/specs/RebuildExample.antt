@@ -68,8 +68,8 @@ example_plan = record {
 
 abbrev pub rebuilt_lists : Lists
 rebuilt_lists =
-    record { number = 1; name = codes "INBOX"; next_uid = 2; messages = record { uid = 1; flags = 0; time = 0x65000000; guid = example_guid; octets = whole_octets } ∷ [] }
-    ∷ record { number = 2; name = codes "Work"; next_uid = 2; messages = record { uid = 1; flags = 0; time = 0; guid = work_guid; octets = codes "hello" } ∷ [] } ∷ []
+    record { number = 1; name = codes "INBOX"; next_uid = 2; messages = record { uid = 1; flags = 0; time = 0x65000000; guid = example_guid; octets = whole_octets; words = [] } ∷ [] }
+    ∷ record { number = 2; name = codes "Work"; next_uid = 2; messages = record { uid = 1; flags = 0; time = 0; guid = work_guid; octets = codes "hello"; words = [] } ∷ [] } ∷ []
 
 abbrev pub rebuilt_map_entries : List MapEntry
 rebuilt_map_entries =
@@ -82,4 +82,4 @@ rebuilt_map_entries =
 
 -- the log of Work: its message has map uid 2
 abbrev pub rebuilt_work_entries : List BoxEntry
-rebuilt_work_entries = box.A (record { 0 = 1 }) 0 0 5 (record { 0 = 2 }) (record { 0 = work_guid }) ∷ []
+rebuilt_work_entries = box.A (record { 0 = 1 }) 0 0 5 (record { 0 = 2 }) (record { 0 = work_guid }) [] ∷ []

@@ -4,10 +4,10 @@ use Rattle.std.specs.Str.{bytes_eq}
 use Rattle.model_lists.specs.Lists.{ListedMessage, Mailbox, Lists}
 use Rattle.model_taken.specs.Taken.{TakenMessage, mailboxes_met}
 
--- messages with UIDs from this one on, without flags
+-- messages with UIDs from this one on, without flags and keywords
 abbrev pub listed_from : ℕ → List TakenMessage → List ListedMessage
 listed_from uid [] = []
-listed_from uid (t ∷ rest) = record { uid = uid; flags = 0; time = t.time; guid = t.guid; octets = t.octets } ∷ listed_from (uid + 1) rest
+listed_from uid (t ∷ rest) = record { uid = uid; flags = 0; time = t.time; guid = t.guid; octets = t.octets; words = [] } ∷ listed_from (uid + 1) rest
 
 -- the messages that go to the mailbox with this name
 abbrev pub sent_to : List ℕ → List TakenMessage → List TakenMessage

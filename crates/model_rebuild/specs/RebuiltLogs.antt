@@ -56,10 +56,10 @@ abbrev pub mapped_from : ℕ → List TakenMessage → List MappedMessage
 mapped_from uid [] = []
 mapped_from uid (t ∷ rest) = record { uid = uid; message = t } ∷ mapped_from (uid + 1) rest
 
--- they are added, with UIDs from this one on
+-- they are added, with UIDs from this one on, without keywords
 abbrev pub added_from : ℕ → List MappedMessage → List BoxEntry
 added_from uid [] = []
-added_from uid (t ∷ rest) = box.A (record { 0 = uid }) 0 t.message.time (length t.message.octets) (record { 0 = t.uid }) (record { 0 = t.message.guid }) ∷ added_from (uid + 1) rest
+added_from uid (t ∷ rest) = box.A (record { 0 = uid }) 0 t.message.time (length t.message.octets) (record { 0 = t.uid }) (record { 0 = t.message.guid }) [] ∷ added_from (uid + 1) rest
 
 -- the entries of the log of the mailbox with this name
 abbrev pub rebuilt_box : List ℕ → List TakenMessage → List BoxEntry

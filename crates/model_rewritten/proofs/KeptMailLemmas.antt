@@ -21,6 +21,7 @@ listed_as a b m n row x s records h = record {
   found = ap (find (λ (r : MapRecord). r.uid == row.map_uid)) records ∙ h.found;
   same = h.same;
   octets = kept_as a b h.entry h.entry x.octets s (count_itself h.entry) h.octets;
+  words = h.words;
 }
 
 pub all_listed_as : (a b : Files) (m n : MapMeaning) (rows : List LogRow) (xs : List ListedMessage) → SameStored a b → n.records ≡ m.records → AreListed a m rows xs → AreListed b n rows xs

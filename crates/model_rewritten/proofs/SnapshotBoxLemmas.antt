@@ -4,6 +4,7 @@ use Rattle.std.specs.List.{AllByRecursion}
 use Rattle.std.proofs.Common.{sym, ◌∙◌, ap, arith, subst, append-nil, append_assoc, length-append}
 use Rattle.std.proofs.lemmas.List.{length-map}
 use Rattle.std.proofs.lemmas.List.Elements.{All-head, All-tail, All-weaker}
+use Rattle.mdbox_base.specs.Keywords.{AreWords}
 use Rattle.mdbox_base.specs.declared.entries.BoxEntry.{BoxEntry}
 use Rattle.mdbox_base.specs.declared.entries.BoxEntry.TheVariants as box
 use Rattle.model_logs.specs.Entries.{BoxInRange}
@@ -66,18 +67,18 @@ leads before rows next last (row ∷ rest) m le some fits above rising sound roo
     let l = length-append rows (row ∷ []) in
     let one : box_meaning (before ++ e ∷ []) ≡ meant (rows ++ row ∷ []) (row.uid + 1) =
     box_more before e ∙ ap (box_applied e) m
-    ∙ meant_same _ (rows ++ row ∷ []) (max next (row.uid + 1)) (row.uid + 1) (rows_by_added (record { 0 = row.uid }) row.flags row.time row.size (record { 0 = row.map_uid }) (record { 0 = row.guid }) rows) (omega (arith, low)) in
+    ∙ meant_same _ (rows ++ row ∷ []) (max next (row.uid + 1)) (row.uid + 1) (rows_by_added (record { 0 = row.uid }) row.flags row.time row.size (record { 0 = row.map_uid }) (record { 0 = row.guid }) row.words rows) (omega (arith, low)) in
     let r = leads (before ++ e ∷ []) (rows ++ row ∷ []) (row.uid + 1) last rest one (omega (arith, below)) some fits
     (All-weaker (Rises row) (λ (other : LogRow). row.uid + 1 ≤ other.uid) (λ other h. omega (arith, h)) rest (pairs_head Rises row rest rising))
     (pairs_tail Rises row rest rising) (All-tail (IsSoundRow last) row rest sound) (omega (arith, l, room)) in
     record {
       means = ap box_meaning (sym (append_assoc before (e ∷ []) (map row_entry rest ++ end_with (next_from (row.uid + 1) rest == last) last))) ∙ r.means ∙ meant_same _ (rows ++ row ∷ rest) last last (append_assoc rows (row ∷ []) rest) refl;
       fit = (
-        subst (λ (k : BoxMeaning). (k.next ≤ row.uid) × (row.uid ≤ 4294967294) × (row.flags ≤ 31) × (row.size ≤ 67108864) × (length k.rows < 1000000)) (sym m)
-            (low, omega (arith, below, fits), flags, size, omega (arith, room)),
+        subst (λ (k : BoxMeaning). (k.next ≤ row.uid) × (row.uid ≤ 4294967294) × (row.flags ≤ 31) × (row.size ≤ 67108864) × (length k.rows < 1000000) × AreWords row.words) (sym m)
+            (low, omega (arith, below, fits), flags, size, omega (arith, room), here.words),
         r.fit,
       );
-      in_range = ((omega (arith, below, fits), omega (arith, flags), here.time, omega (arith, size), map_uid, here.guid), r.in_range);
+      in_range = ((omega (arith, below, fits), omega (arith, flags), here.time, omega (arith, size), map_uid, here.guid, words_fit row.words here.words), r.in_range);
     }
 
 few_ends : (t : Bool) (next : ℕ) → length (end_with t next) ≤ 1

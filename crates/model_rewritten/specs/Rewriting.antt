@@ -14,7 +14,7 @@ use Rattle.model_meaning.specs.MapMeaning.{MapRecord, MapBox, MapMeaning, map_me
 
 -- the entry that adds a row as it stands
 abbrev pub row_entry : LogRow → BoxEntry
-row_entry row = box.A (record { 0 = row.uid }) row.flags row.time row.size (record { 0 = row.map_uid }) (record { 0 = row.guid })
+row_entry row = box.A (record { 0 = row.uid }) row.flags row.time row.size (record { 0 = row.map_uid }) (record { 0 = row.guid }) row.words
 
 -- one more than the last of these UIDs, or the first number where there is none
 abbrev pub next_from : ℕ → List LogRow → ℕ

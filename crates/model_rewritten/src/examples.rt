@@ -14,7 +14,7 @@ ghost use Rattle.model_rewritten.specs.Rewriting.{box_snapshot, map_snapshot};
 pub fn example_logs_rewritten()
     ensures same { box_snapshot (box_meaning (example_added ∷ [])) ≡ example_added ∷ [] }
     ensures next { box_snapshot (box_meaning (example_added ∷ N 5 ∷ [])) ≡ example_added ∷ N 5 ∷ [] }
-    ensures flagged { box_snapshot (box_meaning (example_added ∷ F (record { 0 = 1 }) 8 ∷ [])) ≡ A (record { 0 = 1 }) 8 1694498816 0 (record { 0 = 1 }) (record { 0 = example_guid }) ∷ [] }
+    ensures flagged { box_snapshot (box_meaning (example_added ∷ F (record { 0 = 1 }) 8 ∷ [])) ≡ A (record { 0 = 1 }) 8 1694498816 0 (record { 0 = 1 }) (record { 0 = example_guid }) [] ∷ [] }
     ensures deleted { map_snapshot (map_meaning example_store (example_map ++ B (record { 0 = 2 }) 1 (codes "Work") ∷ B (record { 0 = 3 }) 1 (codes "Old") ∷ X (record { 0 = 3 }) [] ∷ V (record { 0 = 2 }) (codes "Home")
         ∷ G (record { 0 = 2 }) 2 ∷ [])) ≡ B (record { 0 = 1 }) 1 (codes "INBOX") ∷ B (record { 0 = 2 }) 2 (codes "Home") ∷ example_stored ∷ H (record { file = 1; map = 1; instance = 0; mailbox = 3 }) ∷ [] }
 {}

@@ -62,7 +62,7 @@ add_more name messages rest others row uid map_uid next next_map draft more h is
   where
     by_test : (t : TakenMessage) (b : Bool) (later : List MappedMessage) → with_entry b uid map_uid (taken_row t) draft ++ map box_text (added_from (if b then uid + 1 else uid) later)
         ≡ draft ++ map box_text (added_from uid (cond b (record { uid = map_uid; message = t } ∷ later) later))
-    by_test t true later = append_assoc draft (box_text (box.A (record { 0 = uid }) 0 t.time (taken_row t).whole (record { 0 = map_uid }) (taken_row t).guid) ∷ []) (map box_text (added_from (uid + 1) later))
+    by_test t true later = append_assoc draft (box_text (box.A (record { 0 = uid }) 0 t.time (taken_row t).whole (record { 0 = map_uid }) (taken_row t).guid []) ∷ []) (map box_text (added_from (uid + 1) later))
     by_test t false later = refl
 
 pub add_ends : (name : List ℕ) (messages : List TakenMessage) (rest : List TakenRow) (uid map_uid : ℕ) (draft : List (List ℕ)) → rest ≡ [] → LeftToAdd name messages rest uid map_uid draft → draft ≡ map box_text (rebuilt_box name messages)
@@ -115,7 +115,7 @@ meet_ends messages rest names none h = by h.after (sym none ∙ h.rest_is) h.all
 
 -- the message goes to the mailbox with this name
 pub is_with : (name mailbox own : List ℕ) (uid map_uid : ℕ) (row : TakenRow) (draft more : List (List ℕ)) (next : ℕ) (given : BoxEntry) → mailbox ≡ row.mailbox → own ≡ name → false ≡ not (bytes_eq mailbox own)
-    → given ≡ box.A (record { 0 = uid }) 0 row.time row.whole (record { 0 = map_uid }) row.guid → more ≡ draft ++ box_text given ∷ [] → next ≡ uid + 1 → IsWithMessage name uid map_uid row draft more next
+    → given ≡ box.A (record { 0 = uid }) 0 row.time row.whole (record { 0 = map_uid }) row.guid [] → more ≡ draft ++ box_text given ∷ [] → next ≡ uid + 1 → IsWithMessage name uid map_uid row draft more next
 is_with name mailbox own uid map_uid row draft more next given m o e g d n =
     let t : true ≡ bytes_eq row.mailbox name = sym (goes (bytes_eq mailbox own) e) ∙ ap (λ (x : List ℕ). bytes_eq x own) m ∙ ap (λ (x : List ℕ). bytes_eq row.mailbox x) o in (
       d ∙ ap (λ (x : BoxEntry). draft ++ box_text x ∷ []) g ∙ ap (λ (b : Bool). with_entry b uid map_uid row draft) t,

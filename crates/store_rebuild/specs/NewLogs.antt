@@ -16,7 +16,7 @@ box_logs_for names taken = map (λ name. map box_text (rebuilt_box name taken)) 
 
 -- The entries of a mailbox log, with that of this message under this UID and map uid, if it goes to the mailbox with this name; and the next UID.
 abbrev pub with_entry : Bool → ℕ → ℕ → TakenRow → List (List ℕ) → List (List ℕ)
-with_entry true uid map_uid row draft = draft ++ box_text (box.A (record { 0 = uid }) 0 row.time row.whole (record { 0 = map_uid }) row.guid) ∷ []
+with_entry true uid map_uid row draft = draft ++ box_text (box.A (record { 0 = uid }) 0 row.time row.whole (record { 0 = map_uid }) row.guid []) ∷ []
 with_entry false uid map_uid row draft = draft
 
 abbrev pub IsWithMessage : List ℕ → ℕ → ℕ → TakenRow → List (List ℕ) → List (List ℕ) → ℕ → Type 0

@@ -1,5 +1,5 @@
 // The logs of the mailboxes of a rebuilt store.
-ghost use Rattle.std.specs.Prelude.{◌≡◌, ◌+◌, ◌<◌, ◌^◌, List, length, map, IfOk};
+ghost use Rattle.std.specs.Prelude.{◌≡◌, ◌+◌, ◌<◌, ◌^◌, [], List, length, map, IfOk};
 ghost use Rattle.mdbox_base.specs.declared.entries.BoxEntry.TheVariants as entry;
 ghost use Rattle.model_logs.specs.Entries.{BoxInRange, box_text};
 ghost use Rattle.model_rebuild.specs.RebuiltLogs.{rebuilt_box};
@@ -8,7 +8,7 @@ ghost use Rattle.rebuild_judge.specs.Kept.{taken_row};
 ghost use Rattle.store_rebuild.specs.NewLogs.{IsWithMessage, box_logs_for};
 
 use crate::draft::{Draft, NewLog};
-use mdbox_base::{BoxEntry, Guid, MapUid, Name, NoMemory, Uid};
+use mdbox_base::{BoxEntry, Guid, MapUid, Name, NoMemory, Seq, Uid};
 use rebuild_judge::TakenRow;
 use std::alloc::Global;
 
@@ -36,7 +36,7 @@ fn new_box(alloc: Global, name: &Name, taken: &[TakenRow]) -> Result<NewLog, NoM
     let mut map_uid = 1;
     let mut rest = taken;
     while let Some((row, others)) = rest.split_first() {
-        let (more, next) = with_message(draft, name, uid, map_uid, row)?;
+        let (more, next) = with_message(alloc, draft, name, uid, map_uid, row)?;
         draft = more;
         uid = next;
         map_uid = next_number(map_uid)?;
@@ -48,6 +48,7 @@ fn new_box(alloc: Global, name: &Name, taken: &[TakenRow]) -> Result<NewLog, NoM
 
 /// The entries, with that of a message if it goes to the mailbox with this name; and the next UID.
 fn with_message(
+    alloc: Global,
     draft: Draft,
     name: &Name,
     uid: u32,
@@ -59,15 +60,22 @@ fn with_message(
     if row.mailbox.as_octets() != name.as_octets() {
         return Ok((draft, uid));
     }
-    let entry = added(uid, map_uid, row.time, row.whole, row.guid);
+    let entry = added(alloc, uid, map_uid, row.time, row.whole, row.guid);
     let draft = draft.push_box(&entry)?;
     let next = next_number(uid)?;
     Ok((draft, next))
 }
 
-/// The entry of a message that is added, without flags.
-fn added(uid: u32, map_uid: u32, time: u64, size: u32, guid: Guid) -> BoxEntry
-    ensures entry { result ≡ entry.A (record { 0 = uid }) 0 time size (record { 0 = map_uid }) guid }
+/// The entry of a message that is added, without flags and keywords.
+fn added(
+    alloc: Global,
+    uid: u32,
+    map_uid: u32,
+    time: u64,
+    size: u32,
+    guid: Guid,
+) -> BoxEntry
+    ensures entry { result ≡ entry.A (record { 0 = uid }) 0 time size (record { 0 = map_uid }) guid [] }
     ensures range { BoxInRange result }
 {
     BoxEntry::A {
@@ -77,6 +85,7 @@ fn added(uid: u32, map_uid: u32, time: u64, size: u32, guid: Guid) -> BoxEntry
         size,
         map_uid: MapUid(map_uid),
         guid,
+        words: Seq::empty(alloc),
     }
 }
 

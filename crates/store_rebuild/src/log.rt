@@ -3,6 +3,7 @@ ghost use Rattle.std.specs.Prelude.{◌≡◌, [], OnOk, IfOk, IsErr};
 ghost use Rattle.disk_model.specs.Disk.{EachImage, IfTold, OthersStay};
 ghost use Rattle.disk_model.specs.FaultCounts.{ChangeFaultCounted, NoFault};
 ghost use Rattle.gate_log.specs.Log.{Holds, IsAtMostAsLong, NamedButFor};
+ghost use Rattle.model_logs.specs.LogFile.{IsVersionOf};
 ghost use Rattle.model_rebuild.specs.RebuildMoments.{KeepsLog};
 ghost use Rattle.store_rebuild.specs.Writing.{IsLogBeingMade};
 
@@ -20,6 +21,7 @@ pub fn write_log<D: Disk>(
     head: LogHead,
     new: NewLog,
 ) -> Result<(), DiskFault>
+    requires version { IsVersionOf head.kind head.version }
     ensures any_moment { EachImage (λ _ image. IfTold (D.history disk.old) (λ before. IsLogBeingMade head new (before name) (image name)) × OthersStay name (D.history disk.old) image) (D.history disk.old) (D.history disk.new) }
     ensures made { OnOk result (IfTold (D.history disk.new) (λ now. KeepsLog now name head new)) }
     ensures others { OnOk result (NamedButFor name (D.history disk.old) (D.history disk.new)) }
@@ -48,6 +50,7 @@ fn make_empty_log<D: Disk>(
     name: FileName,
     head: LogHead,
 ) -> Result<GateLog, DiskFault>
+    requires version { IsVersionOf head.kind head.version }
     ensures any_moment { EachImage (λ _ image. IfTold (D.history disk.old) (λ before. IsAtMostAsLong 26 (before name) (image name)) × OthersStay name (D.history disk.old) image) (D.history disk.old) (D.history disk.new) }
     ensures made { IfOk result (λ log. Holds log [] (D.history disk.new)) }
     ensures log { IfOk result (λ log. log ≡ record { name = name; head = head; end = 25; room = 0 }) }

@@ -2,6 +2,7 @@
 ghost use Rattle.std.specs.Prelude.{◌≡◌, ◌≤◌, ◌∷◌, [], length, vec_len, OnOk, IsErr};
 ghost use Rattle.disk_model.specs.Disk.{DiskState, Between, EachImage, IfTold};
 ghost use Rattle.disk_model.specs.FaultCounts.{ChangeFaultCounted, NoFault};
+ghost use Rattle.model_logs.specs.LogFile.{IsVersionOf};
 ghost use Rattle.model_rebuild.specs.RebuildMoments.{IsLeftByRebuild};
 ghost use Rattle.model_rebuild.specs.RebuildPlan.{RebuildPlan, IsPlanFor};
 ghost use Rattle.model_rebuild.specs.RebuiltLists.{lists_of};
@@ -76,9 +77,11 @@ fn write_boxes<D: Disk>(
 }
 
 fn head_of(store: StoreId, kind: LogKind, number: u32, generation: u32) -> LogHead
-    ensures { result ≡ head_of store.0 kind number generation }
+    ensures is { result ≡ head_of store.0 kind number generation }
+    ensures version { IsVersionOf result.kind result.version }
 {
     LogHead {
+        version: kind.version(),
         store,
         kind,
         number,

@@ -45,7 +45,7 @@ loop-log-preserved g c =
             each_image-then _ _ _ _ h.0 (without_store first _ (file.Box c.loop-log.number c.args.generation) _ _ refl apart h.1 c.in_ok-write_log.ensures.any_moment),
             rootless_then first (file.Box c.loop-log.number c.args.generation) _ _ refl apart named h.1,
           );
-      made = one_more c.args.id.0 c.args.generation c.loop-log.number c.head_of-head.result c.loop-log.yielded c.in-Some.log _ _ c.loop-log.invariant.number c.head_of-head.ensures named c.in_ok-write_log.ensures.made c.loop-log.invariant.made;
+      made = one_more c.args.id.0 c.args.generation c.loop-log.number c.head_of-head.result c.loop-log.yielded c.in-Some.log _ _ c.loop-log.invariant.number c.head_of-head.ensures.is named c.in_ok-write_log.ensures.made c.loop-log.invariant.made;
       others = between-then (KeepsAllBut (IsBoxLogOf c.args.generation)) (KeepsAllBut (IsBoxLogOf c.args.generation)) (KeepsAllBut (IsBoxLogOf c.args.generation)) _ _ _ (others_then (IsBoxLogOf c.args.generation)) c.loop-log.invariant.others
           (between-map _ (KeepsAllBut (IsBoxLogOf c.args.generation)) _ _ (others_made (IsBoxLogOf c.args.generation) (file.Box c.loop-log.number c.args.generation) (c.loop-log.number, refl)) named);
       unfailed = no_fault-then _ _ _ c.loop-log.invariant.unfailed c.in_ok-write_log.ensures.unfailed;

@@ -33,7 +33,7 @@ named_map g c = named_between (file.Map c.args.map_generation) _ _ c.in_ok-write
 
 mapped : (g : Over) (c : In_ok-write_log g) (first : DiskState) (plan : RebuildPlan) → AreNewLogs plan c.args.logs → c.args.map_generation ≡ plan.map_generation → IfTold (g.D.Disk.history c.write_boxes.new.disk) (HasBoxes c.args.id.0 plan first) → IfTold (g.D.Disk.history c.write_log.new.disk) (LacksRoot c.args.id.0 plan first)
 mapped g c first plan logs m has =
-    map_written c.args.id.0 plan first c.args.map_generation c.head_of-head.result c.args.logs.map_log _ _ m c.head_of-head.ensures logs.map_log has (named_map g c)
+    map_written c.args.id.0 plan first c.args.map_generation c.head_of-head.result c.args.logs.map_log _ _ m c.head_of-head.ensures.is logs.map_log has (named_map g c)
     (rootless_then first (file.Map c.args.map_generation) _ _ refl (map_no_root c.args.map_generation) (named_map g c) (if_told-map (HasBoxes c.args.id.0 plan first) (IsRootless first) _ (λ disk k. k.ready.rootless) has)) c.in_ok-write_log.ensures.made
 
 mapped_images : (g : Over) (c : In_ok-write_log g) (first : DiskState) (plan : RebuildPlan) → IfTold (g.D.Disk.history c.write_boxes.new.disk) (HasBoxes c.args.id.0 plan first) → EachImage (λ _ image. IsLeftByRebuild first (lists_of plan.taken) image) (g.D.Disk.history c.args.disk.now) (g.D.Disk.history c.write_boxes.new.disk)
@@ -57,20 +57,20 @@ returns-in_err-write_log-2-clause-any_moment g c = λ first plan logs m b ready.
     let at = goal.at.returns-in_err-write_log-2-clause-any_moment g c in
     let has = boxed g at.In_ok-write_boxes first plan logs b ready in
     each_image-then _ _ _ _ (mapped_images g at.In_ok-write_log first plan has (boxed_images g at.In_ok-write_boxes first plan ready))
-    (with_root c.args.id.0 plan first c.head_of-head-2.result c.args.logs.root_log _ _ c.head_of-head-2.ensures logs.root_log (mapped g at.In_ok-write_log first plan logs m has) c.in_err-write_log-2.ensures.any_moment)
+    (with_root c.args.id.0 plan first c.head_of-head-2.result c.args.logs.root_log _ _ c.head_of-head-2.ensures.is logs.root_log (mapped g at.In_ok-write_log first plan logs m has) c.in_err-write_log-2.ensures.any_moment)
 
 pub returns-clause-any_moment : goal.returns-clause-any_moment
 returns-clause-any_moment g c = λ first plan logs m b ready.
     let at = goal.at.returns-clause-any_moment g c in
     let has = boxed g at.In_ok-write_boxes first plan logs b ready in
     each_image-then _ _ _ _ (mapped_images g at.In_ok-write_log first plan has (boxed_images g at.In_ok-write_boxes first plan ready))
-    (with_root c.args.id.0 plan first c.head_of-head-2.result c.args.logs.root_log _ _ c.head_of-head-2.ensures logs.root_log (mapped g at.In_ok-write_log first plan logs m has) c.in_ok-write_log-2.ensures.any_moment)
+    (with_root c.args.id.0 plan first c.head_of-head-2.result c.args.logs.root_log _ _ c.head_of-head-2.ensures.is logs.root_log (mapped g at.In_ok-write_log first plan logs m has) c.in_ok-write_log-2.ensures.any_moment)
 
 pub returns-clause-made : goal.returns-clause-made
 returns-clause-made g c = λ first plan logs m b ready.
     let at = goal.at.returns-clause-made g c in
     let has = boxed g at.In_ok-write_boxes first plan logs b ready in
-    root_written c.args.id.0 plan first c.head_of-head-2.result c.args.logs.root_log _ _ c.head_of-head-2.ensures logs.root_log (mapped g at.In_ok-write_log first plan logs m has) (named_between file.Root _ _ c.in_ok-write_log-2.ensures.others) c.in_ok-write_log-2.ensures.made
+    root_written c.args.id.0 plan first c.head_of-head-2.result c.args.logs.root_log _ _ c.head_of-head-2.ensures.is logs.root_log (mapped g at.In_ok-write_log first plan logs m has) (named_between file.Root _ _ c.in_ok-write_log-2.ensures.others) c.in_ok-write_log-2.ensures.made
 
 pub returns-clause-others : goal.returns-clause-others
 returns-clause-others g c =
