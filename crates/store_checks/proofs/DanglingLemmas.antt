@@ -47,7 +47,7 @@ dangling_at : (m : MapMeaning) (b : BoxMeaning) (texts : List (List ℕ)) (k pla
     → texts ≡ map box_text entries → AreBoxEntries entries → b ≡ box_meaning entries → IsDangling m entries place
 dangling_at m b texts k place text entries at adds is texts_are good means =
     let e = entry_at box_text entries texts k text texts_are at in
-    let same : adds.entry ≡ e.0 = box_one adds.entry e.0 adds.is.in_range (in_range entries k e.0 good e.1) (sym adds.is.text ∙ e.2) in
+    let same : adds.entry ≡ e.0 = box_one 2 adds.entry e.0 adds.is.in_range (in_range entries k e.0 good e.1) (sym adds.is.text ∙ e.2) in
     let a : Added e.0 adds.uid = added e.0 adds.uid (subst (λ (x : BoxEntry). added_uid x ≡ Some adds.uid) same adds.added) in
     let held = found_holds (λ (r : LogRow). r.uid == adds.uid) b.rows adds.lacks.row (Contains b.rows) adds.lacks.found (All-contains_itself b.rows) in
     record {

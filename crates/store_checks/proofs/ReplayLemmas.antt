@@ -50,7 +50,7 @@ box_no_entry m text none before entry _ is good = none entry (record { text = is
 pub box_misfit : (m : BoxMeaning) (text : List ℕ) (one : BoxEntry) → IsBoxText 2 text one → (BoxFits m one → ⊥) → RefusesBox m text
 box_misfit m text one has misfit before entry means is good =
     let range : BoxInRange entry = (each_of BoxInRange before [] entry good.0).1 in
-    let same : entry ≡ one = box_one entry one range has.in_range (sym is ∙ has.text) in
+    let same : entry ≡ one = box_one 2 entry one range has.in_range (sym is ∙ has.text) in
     let fits : BoxFits (box_meaning before) entry = (box_fit_of [] before [] entry good.1).1 in
     misfit (subst (λ (e : BoxEntry). BoxFits m e) same (subst (λ (k : BoxMeaning). BoxFits k entry) (sym means) fits))
 
