@@ -9,10 +9,11 @@ use Rattle.std.proofs.lemmas.List.{length-map, take-append-drop, drop_more, take
 use Rattle.std.proofs.lemmas.List.Concat.{flat_map-append}
 use Rattle.std.proofs.lemmas.List.Elements.{All-nil, All-head, All-tail, All-take, All-drop, All-append, All-set}
 use Rattle.box_index.specs.declared.index.BoxRow.{BoxRow}
+use Rattle.box_index.specs.declared.index.RowChange.{RowChange}
 use Rattle.std.specs.Option.{SomeIff}
-use Rattle.box_index.specs.Row.{row_of, flagged, UidsRise}
+use Rattle.box_index.specs.Row.{row_of, changed, UidsRise}
 use Rattle.box_index.specs.Pieces.{HeldRows, rows_in, AreFilled, AreRising, LacksUid, begins_by, IsOnlyIn}
-use Rattle.box_index.proofs.RisingLemmas.{rise-end, rise-parts, lacks-below, lacks-above, find-after, find-before, flag-after, flag-before, filter-after, filter-before}
+use Rattle.box_index.proofs.RisingLemmas.{rise-end, rise-parts, lacks-below, lacks-above, find-after, find-before, change-after, change-before, filter-after, filter-before}
 
 -- ---- a piece that begins by a UID, or not
 
@@ -144,53 +145,53 @@ found-in uid pieces place piece only e =
     ∙ find-before uid (get_or pieces place piece).rows (rows_in (drop (place + 1) pieces)) only.2
     ∙ ap (λ (p : HeldRows). find (λ (row : BoxRow). row.uid.0 == uid) p.rows) (sym e)
 
-pub flagged-in : (uid flags : ℕ) (pieces : List HeldRows) (place : ℕ) (piece changed : HeldRows) → IsOnlyIn uid pieces place → piece ≡ get_or pieces place piece → changed.rows ≡ map (flagged uid flags) piece.rows
-    → rows_in (slice_set pieces place changed) ≡ map (flagged uid flags) (rows_in pieces)
-flagged-in uid flags pieces place piece changed only e is =
-    let all = ap (map (flagged uid flags)) (rows_in-split pieces place piece only.0)
-    ∙ flag-after uid flags (rows_in (take place pieces)) _ only.1
-    ∙ ap (λ (t : List BoxRow). rows_in (take place pieces) ++ t) (flag-before uid flags (get_or pieces place piece).rows (rows_in (drop (place + 1) pieces)) only.2) in
-    let same : changed.rows ≡ map (flagged uid flags) (get_or pieces place piece).rows = is ∙ ap (λ (p : HeldRows). map (flagged uid flags) p.rows) e in
-    rows_in-set pieces place changed only.0 ∙ ap (λ (t : List BoxRow). rows_in (take place pieces) ++ (t ++ rows_in (drop (place + 1) pieces))) same ∙ sym all
+pub changed-in : (uid : ℕ) (change : RowChange) (pieces : List HeldRows) (place : ℕ) (piece later : HeldRows) → IsOnlyIn uid pieces place → piece ≡ get_or pieces place piece → later.rows ≡ map (changed uid change) piece.rows
+    → rows_in (slice_set pieces place later) ≡ map (changed uid change) (rows_in pieces)
+changed-in uid change pieces place piece later only e is =
+    let all = ap (map (changed uid change)) (rows_in-split pieces place piece only.0)
+    ∙ change-after uid change (rows_in (take place pieces)) _ only.1
+    ∙ ap (λ (t : List BoxRow). rows_in (take place pieces) ++ t) (change-before uid change (get_or pieces place piece).rows (rows_in (drop (place + 1) pieces)) only.2) in
+    let same : later.rows ≡ map (changed uid change) (get_or pieces place piece).rows = is ∙ ap (λ (p : HeldRows). map (changed uid change) p.rows) e in
+    rows_in-set pieces place later only.0 ∙ ap (λ (t : List BoxRow). rows_in (take place pieces) ++ (t ++ rows_in (drop (place + 1) pieces))) same ∙ sym all
 
-pub removed-in : (uid : ℕ) (pieces : List HeldRows) (place : ℕ) (piece changed : HeldRows) → IsOnlyIn uid pieces place → piece ≡ get_or pieces place piece → changed.rows ≡ filter (λ row. not (uid == row.uid.0)) piece.rows
-    → rows_in (slice_set pieces place changed) ≡ filter (λ row. not (uid == row.uid.0)) (rows_in pieces)
-removed-in uid pieces place piece changed only e is =
+pub removed-in : (uid : ℕ) (pieces : List HeldRows) (place : ℕ) (piece later : HeldRows) → IsOnlyIn uid pieces place → piece ≡ get_or pieces place piece → later.rows ≡ filter (λ row. not (uid == row.uid.0)) piece.rows
+    → rows_in (slice_set pieces place later) ≡ filter (λ row. not (uid == row.uid.0)) (rows_in pieces)
+removed-in uid pieces place piece later only e is =
     let all = ap (filter (λ (row : BoxRow). not (uid == row.uid.0))) (rows_in-split pieces place piece only.0)
     ∙ filter-after uid (rows_in (take place pieces)) _ only.1
     ∙ ap (λ (t : List BoxRow). rows_in (take place pieces) ++ t) (filter-before uid (get_or pieces place piece).rows (rows_in (drop (place + 1) pieces)) only.2) in
-    let same : changed.rows ≡ filter (λ row. not (uid == row.uid.0)) (get_or pieces place piece).rows = is ∙ ap (λ (p : HeldRows). filter (λ (row : BoxRow). not (uid == row.uid.0)) p.rows) e in
-    rows_in-set pieces place changed only.0 ∙ ap (λ (t : List BoxRow). rows_in (take place pieces) ++ (t ++ rows_in (drop (place + 1) pieces))) same ∙ sym all
+    let same : later.rows ≡ filter (λ row. not (uid == row.uid.0)) (get_or pieces place piece).rows = is ∙ ap (λ (p : HeldRows). filter (λ (row : BoxRow). not (uid == row.uid.0)) p.rows) e in
+    rows_in-set pieces place later only.0 ∙ ap (λ (t : List BoxRow). rows_in (take place pieces) ++ (t ++ rows_in (drop (place + 1) pieces))) same ∙ sym all
 
 -- one row fewer in a piece is one row fewer in all
-pub fewer-in : (pieces : List HeldRows) (place : ℕ) (piece changed : HeldRows) → place < length pieces → piece ≡ get_or pieces place piece → length changed.rows + 1 ≡ length piece.rows
-    → length (rows_in (slice_set pieces place changed)) + 1 ≡ length (rows_in pieces)
-fewer-in pieces place piece changed lt e one =
+pub fewer-in : (pieces : List HeldRows) (place : ℕ) (piece later : HeldRows) → place < length pieces → piece ≡ get_or pieces place piece → length later.rows + 1 ≡ length piece.rows
+    → length (rows_in (slice_set pieces place later)) + 1 ≡ length (rows_in pieces)
+fewer-in pieces place piece later lt e one =
     let same : length piece.rows ≡ length (get_or pieces place piece).rows = ap (λ (p : HeldRows). length p.rows) e in
-    rw (rows_in-set pieces place changed lt, rows_in-split pieces place piece lt)
+    rw (rows_in-set pieces place later lt, rows_in-split pieces place piece lt)
     (omega (
       arith,
       one,
       same,
-      length-append (rows_in (take place pieces)) (changed.rows ++ rows_in (drop (place + 1) pieces)),
-      length-append changed.rows (rows_in (drop (place + 1) pieces)),
+      length-append (rows_in (take place pieces)) (later.rows ++ rows_in (drop (place + 1) pieces)),
+      length-append later.rows (rows_in (drop (place + 1) pieces)),
       length-append (rows_in (take place pieces)) ((get_or pieces place piece).rows ++ rows_in (drop (place + 1) pieces)),
       length-append (get_or pieces place piece).rows (rows_in (drop (place + 1) pieces)),
     ))
 
--- flags don't change how many rows there are
-pub flagged-filled : (uid flags : ℕ) (pieces : List HeldRows) (place : ℕ) (piece changed : HeldRows) → AreFilled pieces → place < length pieces → piece ≡ get_or pieces place piece → changed.rows ≡ map (flagged uid flags) piece.rows
-    → AreFilled (slice_set pieces place changed)
-flagged-filled uid flags pieces place piece changed filled lt e is =
+-- a change doesn't change how many rows there are
+pub changed-filled : (uid : ℕ) (change : RowChange) (pieces : List HeldRows) (place : ℕ) (piece later : HeldRows) → AreFilled pieces → place < length pieces → piece ≡ get_or pieces place piece → later.rows ≡ map (changed uid change) piece.rows
+    → AreFilled (slice_set pieces place later)
+changed-filled uid change pieces place piece later filled lt e is =
     let some = filled place piece lt in
     let same : length piece.rows ≡ length (get_or pieces place piece).rows = ap (λ (p : HeldRows). length p.rows) e in
-    let count : length changed.rows ≡ length (map (flagged uid flags) piece.rows) = ap length is in
-    All-set (λ (piece : HeldRows). 1 ≤ length piece.rows) pieces place changed (omega (arith, some, same, count, length-map piece.rows (flagged uid flags))) filled
+    let count : length later.rows ≡ length (map (changed uid change) piece.rows) = ap length is in
+    All-set (λ (piece : HeldRows). 1 ≤ length piece.rows) pieces place later (omega (arith, some, same, count, length-map piece.rows (changed uid change))) filled
 
-pub flagged-length : (uid flags : ℕ) (pieces : List HeldRows) (place : ℕ) (piece changed : HeldRows) (last : List BoxRow) → IsOnlyIn uid pieces place → piece ≡ get_or pieces place piece → changed.rows ≡ map (flagged uid flags) piece.rows
-    → length (rows_in pieces ++ last) ≡ length (rows_in (slice_set pieces place changed) ++ last)
-flagged-length uid flags pieces place piece changed last only e is =
-    rw (flagged-in uid flags pieces place piece changed only e is) (omega (arith, length-append (rows_in pieces) last, length-append (map (flagged uid flags) (rows_in pieces)) last, length-map (rows_in pieces) (flagged uid flags)))
+pub changed-length : (uid : ℕ) (change : RowChange) (pieces : List HeldRows) (place : ℕ) (piece later : HeldRows) (last : List BoxRow) → IsOnlyIn uid pieces place → piece ≡ get_or pieces place piece → later.rows ≡ map (changed uid change) piece.rows
+    → length (rows_in pieces ++ last) ≡ length (rows_in (slice_set pieces place later) ++ last)
+changed-length uid change pieces place piece later last only e is =
+    rw (changed-in uid change pieces place piece later only e is) (omega (arith, length-append (rows_in pieces) last, length-append (map (changed uid change) (rows_in pieces)) last, length-map (rows_in pieces) (changed uid change)))
 
 pub held-same : (rows more : List BoxRow) (room : ℕ) → rows ≡ more → (let held : HeldRows = record { rows = rows; room = room } in held) ≡ record { rows = more; room = room }
 held-same rows more room e = ap (λ (r : List BoxRow). record { rows = r; room = room }) e

@@ -8,9 +8,10 @@ use Rattle.std.proofs.lemmas.List.Elements.{All-nil, All-cons, All-head, All-tai
 use Rattle.std.proofs.lemmas.List.Folds.{find-append}
 use Rattle.std.proofs.lemmas.Bool.Decides.{nat_tests, leb_tells}
 use Rattle.box_index.specs.declared.index.BoxRow.{BoxRow}
-use Rattle.box_index.specs.Row.{row_of, flagged, UidsRise}
+use Rattle.box_index.specs.declared.index.RowChange.{RowChange}
+use Rattle.box_index.specs.Row.{row_of, row_with, changed, UidsRise}
 use Rattle.box_index.specs.Pieces.{LacksUid}
-use Rattle.box_index.proofs.RowLemmas.{flagged-same, flagged-other}
+use Rattle.box_index.proofs.RowLemmas.{changed-same, changed-other}
 
 -- ---- the order of rows
 
@@ -79,10 +80,10 @@ find-lacks uid (row ∷ rows) h =
     let other = neq-eqb row.uid.0 uid (λ e. All-head (λ (row : BoxRow). uid ≢ row.uid.0) row rows h (sym e)) in
     rw other (find-lacks uid rows (All-tail (λ (row : BoxRow). uid ≢ row.uid.0) row rows h))
 
-pub flag-lacks : (uid flags : ℕ) (rows : List BoxRow) → LacksUid uid rows → map (flagged uid flags) rows ≡ rows
-flag-lacks uid flags [] h = refl
-flag-lacks uid flags (row ∷ rows) h =
-    rw (flagged-other uid flags row (All-head (λ (row : BoxRow). uid ≢ row.uid.0) row rows h), flag-lacks uid flags rows (All-tail (λ (row : BoxRow). uid ≢ row.uid.0) row rows h)) refl
+pub change-lacks : (uid : ℕ) (change : RowChange) (rows : List BoxRow) → LacksUid uid rows → map (changed uid change) rows ≡ rows
+change-lacks uid change [] h = refl
+change-lacks uid change (row ∷ rows) h =
+    rw (changed-other uid change row (All-head (λ (row : BoxRow). uid ≢ row.uid.0) row rows h), change-lacks uid change rows (All-tail (λ (row : BoxRow). uid ≢ row.uid.0) row rows h)) refl
 
 pub filter-lacks : (uid : ℕ) (rows : List BoxRow) → LacksUid uid rows → filter (λ row. not (uid == row.uid.0)) rows ≡ rows
 filter-lacks uid [] h = refl
@@ -102,11 +103,11 @@ find-after uid front back lacks = rw (find-append (λ (row : BoxRow). row.uid.0 
 pub find-before : (uid : ℕ) (front back : List BoxRow) → LacksUid uid back → find (λ row. row.uid.0 == uid) (front ++ back) ≡ find (λ row. row.uid.0 == uid) front
 find-before uid front back lacks = rw (find-append (λ (row : BoxRow). row.uid.0 == uid) front back, find-lacks uid back lacks) (or-none _)
 
-pub flag-after : (uid flags : ℕ) (front back : List BoxRow) → LacksUid uid front → map (flagged uid flags) (front ++ back) ≡ front ++ map (flagged uid flags) back
-flag-after uid flags front back lacks = rw (map-append (flagged uid flags) front back, flag-lacks uid flags front lacks) refl
+pub change-after : (uid : ℕ) (change : RowChange) (front back : List BoxRow) → LacksUid uid front → map (changed uid change) (front ++ back) ≡ front ++ map (changed uid change) back
+change-after uid change front back lacks = rw (map-append (changed uid change) front back, change-lacks uid change front lacks) refl
 
-pub flag-before : (uid flags : ℕ) (front back : List BoxRow) → LacksUid uid back → map (flagged uid flags) (front ++ back) ≡ map (flagged uid flags) front ++ back
-flag-before uid flags front back lacks = rw (map-append (flagged uid flags) front back, flag-lacks uid flags back lacks) refl
+pub change-before : (uid : ℕ) (change : RowChange) (front back : List BoxRow) → LacksUid uid back → map (changed uid change) (front ++ back) ≡ map (changed uid change) front ++ back
+change-before uid change front back lacks = rw (map-append (changed uid change) front back, change-lacks uid change back lacks) refl
 
 pub filter-after : (uid : ℕ) (front back : List BoxRow) → LacksUid uid front → filter (λ row. not (uid == row.uid.0)) (front ++ back) ≡ front ++ filter (λ row. not (uid == row.uid.0)) back
 filter-after uid front back lacks = rw (filter-append (λ (row : BoxRow). not (uid == row.uid.0)) front back, filter-lacks uid front lacks) refl
@@ -127,17 +128,17 @@ found-at low next uid (r ∷ rows) (suc place) row h lt e u =
     let there : (get_or rows place row).uid.0 ≡ uid = ap (λ (x : BoxRow). x.uid.0) (sym e) ∙ u in
     rw (neq-eqb r.uid.0 uid (λ same. omega (arith, above, there, same))) (found-at (r.uid.0 + 1) next uid rows place row h.1 within e u)
 
-pub flagged-at : (low next uid flags : ℕ) (rows : List BoxRow) (place : ℕ) (row : BoxRow) → UidsRise low (map row_of rows) next → place < length rows → row ≡ get_or rows place row → row.uid.0 ≡ uid → slice_set rows place (record row { flags = flags }) ≡ map (flagged uid flags) rows
-flagged-at low next uid flags [] place row h lt e u = absurd (omega (arith, lt))
-flagged-at low next uid flags (r ∷ rows) zero row h lt e u =
+pub changed-at : (low next uid : ℕ) (change : RowChange) (rows : List BoxRow) (place : ℕ) (row : BoxRow) → UidsRise low (map row_of rows) next → place < length rows → row ≡ get_or rows place row → row.uid.0 ≡ uid → slice_set rows place (row_with change row) ≡ map (changed uid change) rows
+changed-at low next uid change [] place row h lt e u = absurd (omega (arith, lt))
+changed-at low next uid change (r ∷ rows) zero row h lt e u =
     let here : uid ≡ r.uid.0 = sym u ∙ ap (λ (x : BoxRow). x.uid.0) e in
-    let rest = flag-lacks uid flags rows (lacks-above (r.uid.0 + 1) next uid rows h.1 (omega (arith, here))) in
-    rw (flagged-same uid flags r here, rest) (ap (λ (x : BoxRow). record x { flags = flags } ∷ rows) e)
-flagged-at low next uid flags (r ∷ rows) (suc place) row h lt e u =
+    let rest = change-lacks uid change rows (lacks-above (r.uid.0 + 1) next uid rows h.1 (omega (arith, here))) in
+    rw (changed-same uid change r here, rest) (ap (λ (x : BoxRow). row_with change x ∷ rows) e)
+changed-at low next uid change (r ∷ rows) (suc place) row h lt e u =
     let within : place < length rows = omega (arith, lt) in
     let above = rise-at (r.uid.0 + 1) next rows h.1 place row within in
     let there : (get_or rows place row).uid.0 ≡ uid = ap (λ (x : BoxRow). x.uid.0) (sym e) ∙ u in
-    rw (flagged-other uid flags r (λ same. omega (arith, above, there, same))) (ap (λ (t : List BoxRow). r ∷ t) (flagged-at (r.uid.0 + 1) next uid flags rows place row h.1 within e u))
+    rw (changed-other uid change r (λ same. omega (arith, above, there, same))) (ap (λ (t : List BoxRow). r ∷ t) (changed-at (r.uid.0 + 1) next uid change rows place row h.1 within e u))
 
 pub removed-at : (low next uid : ℕ) (rows : List BoxRow) (place : ℕ) (row : BoxRow) → UidsRise low (map row_of rows) next → place < length rows → row ≡ get_or rows place row → row.uid.0 ≡ uid → remove rows place ≡ filter (λ row. not (uid == row.uid.0)) rows
 removed-at low next uid [] place row h lt e u = absurd (omega (arith, lt))

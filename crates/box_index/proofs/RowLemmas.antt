@@ -4,16 +4,19 @@ use Rattle.std.proofs.Common.{eq-eqb, ◌≡◌, ◌+◌, ◌==◌, ℕ, ◌≤�
 use Rattle.std.specs.Option.{option_map}
 use Rattle.model_meaning.specs.BoxMeaning.{LogRow, row_changed, row_removed}
 use Rattle.mdbox_base.specs.declared.ids.Uid.{Uid}
+use Rattle.mdbox_base.specs.declared.entries.BoxEntry.{BoxEntry}
 use Rattle.mdbox_base.specs.declared.entries.BoxEntry.TheVariants as entry
-use Rattle.box_index.specs.Row.{row_of, flagged, UidsRise}
+use Rattle.box_index.specs.Row.{row_of, row_with, changed, UidsRise}
 use Rattle.box_index.specs.declared.index.BoxRow.{BoxRow}
+use Rattle.box_index.specs.declared.index.RowChange.{RowChange}
+use Rattle.box_index.specs.declared.index.RowChange.TheVariants as change
 
--- the flags of a row with this UID, and of one with another
-pub flagged-same : (uid flags : ℕ) (row : BoxRow) → uid ≡ row.uid.0 → flagged uid flags row ≡ record row { flags = flags }
-flagged-same uid flags row e = rw e (rw (eq-eqb row.uid.0 row.uid.0 refl) refl)
+-- a row with this UID, and one with another
+pub changed-same : (uid : ℕ) (how : RowChange) (row : BoxRow) → uid ≡ row.uid.0 → changed uid how row ≡ row_with how row
+changed-same uid how row e = rw e (rw (eq-eqb row.uid.0 row.uid.0 refl) refl)
 
-pub flagged-other : (uid flags : ℕ) (row : BoxRow) → (uid ≡ row.uid.0 → ⊥) → flagged uid flags row ≡ row
-flagged-other uid flags row ne = grind (arith, nat_tests)
+pub changed-other : (uid : ℕ) (how : RowChange) (row : BoxRow) → (uid ≡ row.uid.0 → ⊥) → changed uid how row ≡ row
+changed-other uid how row ne = grind (arith, nat_tests)
 
 pub map-append : {X Y : Type 0} → (f : X → Y) (xs : List X) (y : X) → map f (xs ++ y ∷ []) ≡ map f xs ++ f y ∷ []
 map-append f [] y = refl
@@ -27,13 +30,18 @@ pub map-same : {X : Type 0} → (xs : List X) → map (λ x. x) xs ≡ xs
 map-same [] = refl
 map-same (x ∷ xs) = ap (λ t. x ∷ t) (map-same xs)
 
--- rows that are flagged
-flagged-row : (uid : Uid) (flags : ℕ) (row : BoxRow) → row_of (flagged uid.0 flags row) ≡ row_changed (entry.F uid flags) (row_of row)
-flagged-row uid flags row = elim (uid.0 == row.uid.0) as (λ (b : Bool). row_of (cond b (record row { flags = flags }) row) ≡ cond b (record (row_of row) { flags = flags }) (row_of row)) [ true ↦ refl | false ↦ refl ]
+-- rows that are changed: by the entry that sets flags or keywords
+abbrev pub change_entry : Uid → RowChange → BoxEntry
+change_entry uid (change.Flags flags) = entry.F uid flags
+change_entry uid (change.Words words) = entry.K uid words
 
-pub flagged-rows : (uid : Uid) (flags : ℕ) (rows : List BoxRow) → map row_of (map (flagged uid.0 flags) rows) ≡ map (row_changed (entry.F uid flags)) (map row_of rows)
-flagged-rows uid flags [] = refl
-flagged-rows uid flags (row ∷ rows) = rw (flagged-row uid flags row, flagged-rows uid flags rows) refl
+changed-row : (uid : Uid) (how : RowChange) (row : BoxRow) → row_of (changed uid.0 how row) ≡ row_changed (change_entry uid how) (row_of row)
+changed-row uid (change.Flags flags) row = elim (uid.0 == row.uid.0) as (λ (b : Bool). row_of (cond b (record row { flags = flags }) row) ≡ cond b (record (row_of row) { flags = flags }) (row_of row)) [ true ↦ refl | false ↦ refl ]
+changed-row uid (change.Words words) row = elim (uid.0 == row.uid.0) as (λ (b : Bool). row_of (cond b (record row { words = words }) row) ≡ cond b (record (row_of row) { words = words }) (row_of row)) [ true ↦ refl | false ↦ refl ]
+
+pub changed-rows : (uid : Uid) (how : RowChange) (rows : List BoxRow) → map row_of (map (changed uid.0 how) rows) ≡ map (row_changed (change_entry uid how)) (map row_of rows)
+changed-rows uid how [] = refl
+changed-rows uid how (row ∷ rows) = rw (changed-row uid how row, changed-rows uid how rows) refl
 
 -- rows that are removed
 pub removed-rows : (uid : Uid) (rows : List BoxRow) → map row_of (filter (λ row. not (uid.0 == row.uid.0)) rows) ≡ filter (λ row. not (row_removed (entry.R uid) row)) (map row_of rows)
@@ -55,12 +63,13 @@ pub rise-append : (low next : ℕ) (rows : List LogRow) (row : LogRow) → UidsR
 rise-append low next [] row h le = (omega (arith, h), omega arith)
 rise-append low next (r ∷ rows) row h le = (h.0, rise-append (r.uid + 1) next rows row h.1 le)
 
-rise-flagged_one : (uid : Uid) (flags : ℕ) (row : LogRow) → (row_changed (entry.F uid flags) row).uid ≡ row.uid
-rise-flagged_one uid flags row = elim (uid.0 == row.uid) as (λ (b : Bool). (cond b (record row { flags = flags }) row).uid ≡ row.uid) [ true ↦ refl | false ↦ refl ]
+rise-changed_one : (uid : Uid) (how : RowChange) (row : LogRow) → (row_changed (change_entry uid how) row).uid ≡ row.uid
+rise-changed_one uid (change.Flags flags) row = elim (uid.0 == row.uid) as (λ (b : Bool). (cond b (record row { flags = flags }) row).uid ≡ row.uid) [ true ↦ refl | false ↦ refl ]
+rise-changed_one uid (change.Words words) row = elim (uid.0 == row.uid) as (λ (b : Bool). (cond b (record row { words = words }) row).uid ≡ row.uid) [ true ↦ refl | false ↦ refl ]
 
-pub rise-flagged : (low next : ℕ) (uid : Uid) (flags : ℕ) (rows : List LogRow) → UidsRise low rows next → UidsRise low (map (row_changed (entry.F uid flags)) rows) next
-rise-flagged low next uid flags [] h = h
-rise-flagged low next uid flags (row ∷ rows) h = let same = rise-flagged_one uid flags row in rw same (h.0, rise-flagged (row.uid + 1) next uid flags rows h.1)
+pub rise-changed : (low next : ℕ) (uid : Uid) (how : RowChange) (rows : List LogRow) → UidsRise low rows next → UidsRise low (map (row_changed (change_entry uid how)) rows) next
+rise-changed low next uid how [] h = h
+rise-changed low next uid how (row ∷ rows) h = let same = rise-changed_one uid how row in rw same (h.0, rise-changed (row.uid + 1) next uid how rows h.1)
 
 pub rise-removed : (low next : ℕ) (keep : LogRow → Bool) (rows : List LogRow) → UidsRise low rows next → UidsRise low (filter keep rows) next
 rise-removed low next keep [] h = h

@@ -1,17 +1,22 @@
 -- Rows of a mailbox as the code has them, and what they stand for.
 use Rattle.std.specs.Prelude.{◌==◌, if◌then◌else◌, ◌+◌, ◌≤◌, ℕ, List, [], ◌∷◌, length}
 use Rattle.model_meaning.specs.BoxMeaning.{LogRow, BoxMeaning}
-use Rattle.mdbox_base.specs.declared.entries.BoxEntry.{BoxEntry}
-use Rattle.mdbox_base.specs.declared.entries.BoxEntry.TheVariants as entry
 use Rattle.box_index.specs.declared.index.BoxRow.{BoxRow}
+use Rattle.box_index.specs.declared.index.RowChange.{RowChange}
+use Rattle.box_index.specs.declared.index.RowChange.TheVariants as change
 
 -- a row of the code, as the model has it
 abbrev pub row_of : BoxRow → LogRow
-row_of row = record { uid = row.uid.0; flags = row.flags; time = row.time; size = row.size; map_uid = row.map_uid.0; guid = row.guid.0 }
+row_of row = record { uid = row.uid.0; flags = row.flags; time = row.time; size = row.size; map_uid = row.map_uid.0; guid = row.guid.0; words = row.words }
 
--- a row with these flags, where it has this UID
-abbrev pub flagged : ℕ → ℕ → BoxRow → BoxRow
-flagged uid flags row = if uid == row.uid.0 then record row { flags = flags } else row
+-- a row with other flags, or with other keywords
+abbrev pub row_with : RowChange → BoxRow → BoxRow
+row_with (change.Flags flags) row = record row { flags = flags }
+row_with (change.Words words) row = record row { words = words }
+
+-- a row as it is changed, where it has this UID
+abbrev pub changed : ℕ → RowChange → BoxRow → BoxRow
+changed uid change row = if uid == row.uid.0 then row_with change row else row
 
 -- The rows' UIDs rise strictly from the first number on, and lie below the second.
 abbrev pub UidsRise : ℕ → List LogRow → ℕ → Type 0
@@ -24,8 +29,3 @@ pub record IsInOrder (m : BoxMeaning) : Type 0 where
   pub some : 1 ≤ m.next
   pub last : m.next ≤ 4294967295
   pub few : length m.rows ≤ 1000000
-
--- the entry adds a message
-abbrev pub IsAdded : BoxEntry → Type 0
-IsAdded (entry.A uid flags time size map_uid guid) = Unit {0}
-IsAdded other = ⊥

@@ -1,12 +1,12 @@
 // The index of a mailbox.
-ghost use Rattle.std.specs.Prelude.{◌≡◌, ◌+◌, ◌<◌, ◌≤◌, ◌↔◌, [], length, map, slice_get, IsTrue, IsNone, IsErr, IfOk, IfSome, OnOk, OnErr};
-ghost use Rattle.std.specs.Option.{option_map};
+ghost use Rattle.std.specs.Prelude.{◌≡◌, ◌≢◌, ◌+◌, ◌<◌, ◌≤◌, ◌↔◌, [], length, map, slice_get, IsTrue, IsNone, IsErr, IfOk, IfSome, OnOk, OnErr};
+ghost use Rattle.std.specs.Option.{option_copied, option_map};
 ghost use Rattle.model_meaning.specs.BoxMeaning.{box_meaning, box_applied, BoxFits, row_at, row_made};
-ghost use Rattle.box_index.specs.Row.{row_of};
+ghost use Rattle.box_index.specs.Row.{row_of, row_with};
 
 use crate::pieces::Pieces;
 use crate::rows::BoxRows;
-use mdbox_base::{BoxEntry, Flags, Guid, MapUid, NoMemory, Uid, flags_of};
+use mdbox_base::{BoxEntry, Flags, Guid, MapUid, NoMemory, Uid, Words, are_words, flags_of};
 use std::alloc::Global;
 use std::marker::Model;
 
@@ -20,7 +20,7 @@ const LAST_UID: u32 = 4_294_967_294;
 const MOST_OCTETS: u32 = 67_108_864;
 
 /// A listed message: size in octets, time in Unix seconds.
-#[derive(Clone, Copy, Debug, PartialEq, Eq)]
+#[derive(Drop)]
 pub struct BoxRow {
     pub uid: Uid,
     pub flags: Flags,
@@ -28,6 +28,26 @@ pub struct BoxRow {
     pub time: u64,
     pub guid: Guid,
     pub map_uid: MapUid,
+    pub words: Words,
+}
+
+/// How a listed message changes: it has these flags, or these keywords.
+#[derive(Drop)]
+pub(crate) enum RowChange {
+    Flags(Flags),
+    Words(Words),
+}
+
+impl BoxRow {
+    /// Changes the row.
+    pub(crate) fn change(&mut self, change: RowChange)
+        ensures { self.new ≡ row_with change self.old }
+    {
+        match change {
+            RowChange::Flags(flags) => self.flags = flags,
+            RowChange::Words(words) => self.words = words,
+        }
+    }
 }
 
 /// What the entries of a mailbox log mean so far.
@@ -52,7 +72,7 @@ impl Model for BoxIndex {
 }
 
 impl BoxIndex {
-    ghost use Rattle.box_index.specs.Row.{row_of, IsInOrder, IsAdded};
+    ghost use Rattle.box_index.specs.Row.{row_of, IsInOrder};
 
     /// The index of a log without entries.
     pub fn empty(alloc: Global) -> Result<BoxIndex, NoMemory>
@@ -91,8 +111,8 @@ impl BoxIndex {
     }
 
     /// The listed messages in UID order, by places from 0. None exactly past the end.
-    pub fn row_at(&self, place: u32) -> Option<BoxRow>
-        ensures { option_map row_of result ≡ slice_get self.now.meaning.rows place }
+    pub fn row_at(&self, place: u32) -> Option<&BoxRow>
+        ensures { option_map row_of (option_copied result) ≡ slice_get self.now.meaning.rows place }
     {
         self.rows.row_at(place as usize)
     }
@@ -105,8 +125,8 @@ impl BoxIndex {
     }
 
     /// The listed message with this UID. None if and only if there is none.
-    pub fn find(&self, uid: Uid) -> Option<BoxRow>
-        ensures { option_map row_of result ≡ row_at self.now.meaning uid.0 }
+    pub fn find(&self, uid: Uid) -> Option<&BoxRow>
+        ensures { option_map row_of (option_copied result) ≡ row_at self.now.meaning uid.0 }
     {
         self.rows.find(uid)
     }
@@ -115,22 +135,25 @@ impl BoxIndex {
     pub fn fits(&self, entry: &BoxEntry) -> bool
         ensures { IsTrue result ↔ BoxFits self.now.meaning entry.now }
     {
-        match *entry {
-            BoxEntry::N { next } => self.next <= next && next >= 1,
+        match entry {
+            BoxEntry::N { next } => self.next <= *next && *next >= 1,
             BoxEntry::A {
                 uid,
                 flags,
                 size,
+                words,
                 ..
             } => {
                 self.next <= uid.0
                     && uid.0 <= LAST_UID
-                    && flags <= 31
-                    && size <= MOST_OCTETS
+                    && *flags <= 31
+                    && *size <= MOST_OCTETS
                     && self.rows.length() < MOST_ROWS
+                    && are_words(words.as_slice())
             }
-            BoxEntry::F { uid, flags } => self.find(uid).is_some() && flags <= 31,
-            BoxEntry::R { uid } => self.find(uid).is_some(),
+            BoxEntry::F { uid, flags } => self.find(*uid).is_some() && *flags <= 31,
+            BoxEntry::K { uid, words } => self.find(*uid).is_some() && are_words(words.as_slice()),
+            BoxEntry::R { uid } => self.find(*uid).is_some(),
         }
     }
 
@@ -147,18 +170,18 @@ impl BoxIndex {
         self.rows.reserve()
     }
 
-    /// Takes in an entry that fits. Only one that adds a message takes memory, and only if there is no room for it;
-    /// without it the index stays.
-    pub fn apply(&mut self, entry: &BoxEntry) -> Result<(), NoMemory>
-        requires { BoxFits self.old.meaning entry.now }
-        ensures ok { OnOk result (self.new.meaning ≡ box_applied entry.now self.old.meaning) }
+    /// Takes in an entry that fits: its keywords go into the row. Only an entry that adds a message takes memory, and only
+    /// if there is no room for it; without it the index stays.
+    pub fn apply(&mut self, entry: BoxEntry) -> Result<(), NoMemory>
+        requires { BoxFits self.old.meaning entry }
+        ensures ok { OnOk result (self.new.meaning ≡ box_applied entry self.old.meaning) }
         ensures err { OnErr result (self.new ≡ self.old) }
-        ensures added_only { IsErr result → IsAdded entry.now }
+        ensures added_only { IsErr result → row_made entry ≢ [] }
         ensures full { IsErr result → self.old.room ≡ 0 }
         // A message that is added takes one place at most, and any other entry none.
-        ensures room { self.old.room ≤ self.new.room + length (row_made entry.now) }
+        ensures room { self.old.room ≤ self.new.room + length (row_made entry) }
     {
-        match *entry {
+        match entry {
             BoxEntry::N { next } => {
                 self.next = next;
             }
@@ -169,6 +192,7 @@ impl BoxIndex {
                 size,
                 map_uid,
                 guid,
+                words,
             } => {
                 let row = BoxRow {
                     uid,
@@ -177,13 +201,17 @@ impl BoxIndex {
                     time,
                     guid,
                     map_uid,
+                    words: Words::of(words),
                 };
                 self.rows.reserve()?;
                 self.rows.push(row);
                 self.next = uid.0 + 1;
             }
             BoxEntry::F { uid, flags } => {
-                self.rows.flag(uid, known_flags(flags));
+                self.rows.change(uid, RowChange::Flags(known_flags(flags)));
+            }
+            BoxEntry::K { uid, words } => {
+                self.rows.change(uid, RowChange::Words(Words::of(words)));
             }
             BoxEntry::R { uid } => {
                 self.rows.remove(uid);

@@ -1,11 +1,12 @@
 // One piece of the rows of a mailbox.
 ghost use Rattle.std.specs.Prelude.{◌≡◌, ◌<◌, ◌≤◌, ◌+◌, ◌-◌, ◌↔◌, ◌++◌, ◌∷◌, [], ◌==◌, IsTrue, IsNone, IsErr, IfSome, OnOk, OnErr, false, length, map, filter, find, not, slice_get};
 ghost use Rattle.std.specs.List.{HoldsAt};
-ghost use Rattle.box_index.specs.Row.{flagged};
+ghost use Rattle.std.specs.Option.{option_copied};
+ghost use Rattle.box_index.specs.Row.{changed};
 ghost use Rattle.box_index.specs.Pieces.{AreRising, LacksUid, begins_by};
 
-use crate::index::BoxRow;
-use mdbox_base::{Flags, NoMemory, Uid};
+use crate::index::{BoxRow, RowChange};
+use mdbox_base::{NoMemory, Uid};
 use std::alloc::Global;
 use std::marker::Model;
 
@@ -57,10 +58,10 @@ impl Piece {
     }
 
     /// The row at this place, from 0.
-    pub(crate) fn row_at(&self, place: usize) -> Option<BoxRow>
-        ensures { result ≡ slice_get self.now.rows place }
+    pub(crate) fn row_at(&self, place: usize) -> Option<&BoxRow>
+        ensures { option_copied result ≡ slice_get self.now.rows place }
     {
-        self.rows.get(place).copied()
+        self.rows.get(place)
     }
 
     /// Whether there are no rows.
@@ -90,21 +91,21 @@ impl Piece {
     }
 
     /// The row with this UID.
-    pub(crate) fn find(&self, uid: Uid) -> Option<BoxRow>
+    pub(crate) fn find(&self, uid: Uid) -> Option<&BoxRow>
         requires { AreRising self.now.rows }
-        ensures { result ≡ find (λ row. row.uid.0 == uid.0) self.now.rows }
+        ensures { option_copied result ≡ find (λ row. row.uid.0 == uid.0) self.now.rows }
     {
         let place = place_in(&self.rows, uid)?;
-        Some(self.rows[place])
+        Some(&self.rows[place])
     }
 
-    /// Sets the flags of the row with this UID.
-    pub(crate) fn flag(&mut self, uid: Uid, flags: Flags)
+    /// Changes the row with this UID.
+    pub(crate) fn change(&mut self, uid: Uid, change: RowChange)
         requires { AreRising self.old.rows }
-        ensures { self.new ≡ record self.old { rows = map (flagged uid.0 flags) self.old.rows } }
+        ensures { self.new ≡ record self.old { rows = map (changed uid.0 change) self.old.rows } }
     {
         if let Some(place) = place_in(&self.rows, uid) {
-            self.rows[place].flags = flags;
+            self.rows[place].change(change);
         }
     }
 
@@ -155,13 +156,13 @@ impl Piece {
     }
 
     /// Adds the rows of the next piece, for which there is room.
-    pub(crate) fn join(&mut self, next: &Piece)
-        requires { length next.now.rows ≤ self.old.room }
-        ensures { self.new.rows ≡ self.old.rows ++ next.now.rows }
+    pub(crate) fn join(&mut self, mut next: Piece)
+        requires { length next.rows ≤ self.old.room }
+        ensures { self.new.rows ≡ self.old.rows ++ next.rows }
     {
-        for row in next.rows() {
-            self.push(*row);
-        }
+        let Ok(()) = self.rows.append(&mut next.rows) else {
+            unreachable!()
+        };
     }
 }
 

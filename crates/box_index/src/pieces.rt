@@ -1,12 +1,13 @@
 // The rows of a mailbox, in pieces.
 ghost use Rattle.std.specs.Prelude.{◌≡◌, ◌<◌, ◌≤◌, ◌+◌, ◌-◌, ◌++◌, ◌∷◌, [], ◌==◌, IsTrue, IsNone, IsErr, IfSome, OnOk, OnErr, false, length, map, filter, find, not, slice_get};
-ghost use Rattle.box_index.specs.Row.{flagged};
+ghost use Rattle.std.specs.Option.{option_copied};
+ghost use Rattle.box_index.specs.Row.{changed};
 ghost use Rattle.box_index.specs.Pieces.{rows_in, AreFilled, AreRising, LacksUid, IsOnlyIn};
 
-use crate::index::BoxRow;
+use crate::index::{BoxRow, RowChange};
 use crate::piece::Piece;
 use crate::rows::BoxRows;
-use mdbox_base::{Flags, NoMemory, Uid};
+use mdbox_base::{NoMemory, Uid};
 use std::alloc::Global;
 use std::marker::Model;
 use std::mem::replace;
@@ -54,8 +55,8 @@ impl Pieces {
     }
 
     /// The row at this place, from 0. It walks over the pieces.
-    pub(crate) fn row_at(&self, place: usize) -> Option<BoxRow>
-        ensures { result ≡ slice_get self.now.rows place }
+    pub(crate) fn row_at(&self, place: usize) -> Option<&BoxRow>
+        ensures { option_copied result ≡ slice_get self.now.rows place }
     {
         let mut after = place;
         for piece in &self.earlier {
@@ -75,9 +76,9 @@ impl Pieces {
     }
 
     /// The row with this UID.
-    pub(crate) fn find(&self, uid: Uid) -> Option<BoxRow>
+    pub(crate) fn find(&self, uid: Uid) -> Option<&BoxRow>
         requires { AreRising self.now.rows }
-        ensures { result ≡ find (λ row. row.uid.0 == uid.0) self.now.rows }
+        ensures { option_copied result ≡ find (λ row. row.uid.0 == uid.0) self.now.rows }
     {
         if self.last.begins_by(uid) {
             return self.last.find(uid);
@@ -86,15 +87,15 @@ impl Pieces {
         self.earlier[place].find(uid)
     }
 
-    /// Sets the flags of the row with this UID.
-    pub(crate) fn flag(&mut self, uid: Uid, flags: Flags)
+    /// Changes the row with this UID.
+    pub(crate) fn change(&mut self, uid: Uid, change: RowChange)
         requires { AreRising self.old.rows }
-        ensures { self.new ≡ record self.old { rows = map (flagged uid.0 flags) self.old.rows } }
+        ensures { self.new ≡ record self.old { rows = map (changed uid.0 change) self.old.rows } }
     {
         if self.last.begins_by(uid) {
-            self.last.flag(uid, flags);
+            self.last.change(uid, change);
         } else if let Some(place) = piece_with(&self.earlier, uid) {
-            self.earlier[place].flag(uid, flags);
+            self.earlier[place].change(uid, change);
         }
     }
 
@@ -194,7 +195,7 @@ fn join_next(pieces: &mut Vec<Piece>, place: usize)
 {
     if place < pieces.len().saturating_sub(1) && pieces[place].can_join(&pieces[place + 1]) {
         let next = pieces.remove(place + 1);
-        pieces[place].join(&next);
+        pieces[place].join(next);
     }
 }
 

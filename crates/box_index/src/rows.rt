@@ -42,16 +42,16 @@ impl<'a> BoxRows<'a> {
     }
 }
 
-impl Iterator for BoxRows<'_> {
-    type Item = BoxRow;
+impl<'a> Iterator for BoxRows<'a> {
+    type Item = &'a BoxRow;
 
-    ghost use Rattle.std.specs.Iterator.{YieldsFirst, item_count};
+    ghost use Rattle.std.specs.Iterator.{YieldsFirstRef, item_count};
 
-    ghost next_gives = { YieldsFirst (λ rows. rows) };
+    ghost next_gives = { YieldsFirstRef (λ rows. rows) };
 
     ghost remaining = { item_count (λ rows. rows) };
 
-    fn next(&mut self) -> Option<BoxRow> {
+    fn next(&mut self) -> Option<&'a BoxRow> {
         if self.piece.is_empty() {
             match self.earlier.split_first() {
                 Some((piece, earlier)) => {
@@ -66,6 +66,6 @@ impl Iterator for BoxRows<'_> {
         }
         let (row, rest) = self.piece.split_first()?;
         self.piece = rest;
-        Some(*row)
+        Some(row)
     }
 }

@@ -41,12 +41,15 @@ only_changes change rows = append-nil _ ∙ ap (map change) (kept_whole rows)
 pub rows_by_next : (n : ℕ) (rows : List LogRow) → rows_by row_rules (box.N n) rows ≡ rows
 rows_by_next n rows = leaves rows
 
-pub rows_by_added : (uid : Uid) (flags time size : ℕ) (map_uid : MapUid) (guid : Guid) (rows : List LogRow) → rows_by row_rules (box.A uid flags time size map_uid guid) rows
-    ≡ rows ++ record { uid = uid.0; flags = flags; time = time; size = size; map_uid = map_uid.0; guid = guid.0 } ∷ []
-rows_by_added uid flags time size map_uid guid rows = only_adds rows _
+pub rows_by_added : (uid : Uid) (flags time size : ℕ) (map_uid : MapUid) (guid : Guid) (words : List (List ℕ)) (rows : List LogRow) → rows_by row_rules (box.A uid flags time size map_uid guid words) rows
+    ≡ rows ++ record { uid = uid.0; flags = flags; time = time; size = size; map_uid = map_uid.0; guid = guid.0; words = words } ∷ []
+rows_by_added uid flags time size map_uid guid words rows = only_adds rows _
 
 pub rows_by_flagged : (uid : Uid) (flags : ℕ) (rows : List LogRow) → rows_by row_rules (box.F uid flags) rows ≡ map (row_changed (box.F uid flags)) rows
 rows_by_flagged uid flags rows = only_changes (row_changed (box.F uid flags)) rows
+
+pub rows_by_worded : (uid : Uid) (words : List (List ℕ)) (rows : List LogRow) → rows_by row_rules (box.K uid words) rows ≡ map (row_changed (box.K uid words)) rows
+rows_by_worded uid words rows = only_changes (row_changed (box.K uid words)) rows
 
 pub rows_by_removed : (uid : Uid) (rows : List LogRow) → rows_by row_rules (box.R uid) rows ≡ filter (λ row. not (uid.0 == row.uid)) rows
 rows_by_removed uid rows = append-nil _ ∙ unchanged (filter (λ row. not (uid.0 == row.uid)) rows)
