@@ -41,7 +41,7 @@ class Message:
     def added_entry(self):
         """The entry of the mailbox log that adds it."""
         time, size = self.time.to_bytes(8, "big"), four(len(self.octets))
-        return b"A" + four(self.number) + bytes([self.flags]) + time + size + four(self.number) + self.guid
+        return b"A" + four(self.number) + bytes([self.flags]) + time + size + four(self.number) + self.guid + b"\x00"
 
     def removed_entry(self):
         """The entry of the mailbox log that removes it."""
@@ -61,10 +61,11 @@ def four(number):
 
 
 def write_log(path, kind, number, generation, entries):
-    """Writes a log: its head, an open gate and a record for each entry, and the last gate."""
+    """Writes a log of the version of its kind: its head, an open gate and a record for each entry, and the last gate."""
+    magic = b"MDBXLOG2" if kind == b"B" else b"MDBXLOG1"
     records = b"".join(b"\x01" + four(len(entry)) + entry for entry in entries)
     with open(path, "wb") as out:
-        out.write(b"MDBXLOG1" + STORE + kind + four(number) + four(generation) + records + b"\x00")
+        out.write(magic + STORE + kind + four(number) + four(generation) + records + b"\x00")
 
 
 def write_mail_files(folder, messages):

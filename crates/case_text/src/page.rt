@@ -91,8 +91,8 @@ impl Page {
     pub fn define(&mut self, command: Command<'_>) -> Result<Option<bool>, NoMemory> {
         let (name, rest) = command.named();
         let done = match command.word {
-            "text" => self.set(name, b"", rest)?,
-            "log" => self.set(name, b"MDBXLOG1", rest)?,
+            "text" => self.set(name, rest)?,
+            "log" => self.set_log(name, rest)?,
             "more" => self.add(name, 1, rest)?,
             "entry" => self.add_entry(name, rest)?,
             "many" => self.add_many(name, rest)?,
@@ -103,14 +103,23 @@ impl Page {
         Ok(Some(done))
     }
 
-    /// Names the octets that a line writes, with these before them.
-    fn set(&mut self, name: &str, before: &[u8], line: &str) -> Result<bool, NoMemory> {
+    /// Names the octets that a line writes.
+    fn set(&mut self, name: &str, line: &str) -> Result<bool, NoMemory> {
         let Some(octets) = self.texts.octets(line)? else {
             return Ok(false);
         };
-        let mut whole = Vec::from_slice(self.alloc, before)?;
-        whole.extend_from_slice(octets.as_slice())?;
-        self.texts.set(name, whole)?;
+        self.texts.set(name, octets)?;
+        Ok(true)
+    }
+
+    /// Names the head of a log that a line writes, behind the first words of a log of its kind.
+    fn set_log(&mut self, name: &str, line: &str) -> Result<bool, NoMemory> {
+        let Some(head) = self.texts.octets(line)? else {
+            return Ok(false);
+        };
+        let mut log = Vec::from_slice(self.alloc, first_words(head.as_slice()))?;
+        log.extend_from_slice(head.as_slice())?;
+        self.texts.set(name, log)?;
         Ok(true)
     }
 
@@ -171,6 +180,14 @@ impl Page {
         let lines = base64_lines(self.alloc, octets.as_slice(), width)?;
         self.texts.set(name, lines)?;
         Ok(true)
+    }
+}
+
+/// The first words of a log as it is written, by the letter of its kind, which stands after the store's id.
+fn first_words(head: &[u8]) -> &'static [u8] {
+    match head.get(8) {
+        Some(b'B') => b"MDBXLOG2",
+        _ => b"MDBXLOG1",
     }
 }
 

@@ -93,7 +93,7 @@ does_new : (first : List MapRecord) (lanes : ℕ) (run : Run) (event : RunEvent)
 does_new first lanes run event old (request.Flag name uid flags) First reply.Done new l g a d = subst (HaveNew first lanes) (sym d) (flagged_new first lanes name uid.0 flags old a)
 does_new first lanes run event old (request.Make name) Last reply.Done new l g a d = subst (HaveNew first lanes) (sym d.new_is) (all_push (HasNew first lanes) old (empty_mailbox d.number name) a (λ lane some few is. tt))
 does_new first lanes run event old (request.Deliver name time octets) Last (reply.Saved uid own) new l g a d =
-    subst (HaveNew first lanes) (sym d.new_is) (added_new first lanes name (record { uid = uid.0; flags = 0; time = time; guid = own.0; octets = octets }) old (g refl refl own.0 d.guid_is) a)
+    subst (HaveNew first lanes) (sym d.new_is) (added_new first lanes name (record { uid = uid.0; flags = 0; time = time; guid = own.0; octets = octets; words = [] }) old (g refl refl own.0 d.guid_is) a)
 does_new first lanes run event old (request.Copy name uid target) Last (reply.Copied given) new l g a d =
     subst (HaveNew first lanes) (sym d.new_is) (added_new first lanes target d.message old (message_new first lanes l.0 uid.0 old d.message l.1 l.2 a (subst (λ (n : List ℕ). message_at n uid.0 old ≡ Some d.message) l.3 d.source_is)) a)
 does_new first lanes run event old (request.Expunge name uid) First reply.Done new l g a d = subst (HaveNew first lanes) (sym d) (expunged_new first lanes name uid.0 old a)

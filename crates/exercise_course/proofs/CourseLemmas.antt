@@ -362,7 +362,7 @@ turns_in_order lanes number old (i ∷ xs) =
 
 done_is : (q : Request) (old : Lists) → IsReady q old → IsDone q old (lists_done q old)
 done_is (request.Make name) old h = (0, refl)
-done_is (request.Deliver name time octets) old h = (record { uid = 0; flags = 0; time = time; guid = []; octets = octets }, refl, refl)
+done_is (request.Deliver name time octets) old h = (record { uid = 0; flags = 0; time = time; guid = []; octets = octets; words = [] }, refl, refl)
 done_is (request.Copy name uid target) old h = (h.0.message, h.0.there, ap (λ (o : Option ListedMessage). option_map_or (λ message. add_message target message old) o old) h.0.there)
 done_is (request.Expunge name uid) old h = refl
 done_is (request.Flag name uid flags) old h = refl

@@ -155,7 +155,7 @@ step_agrees around after run lists old new name q event answer s ev says answers
 
     by_does : (q : Request) (part : EventPart) (r : Reply) → IsSimple q → IsEvent around after run lists q event → event.refused ≡ refusal_in r → event.part ≡ part → Does run event old q part r new → Agree name new (map_of (and_then run event))
     by_does (request.Make other) Last reply.Done s ev none part d = make_agrees around after run lists old new name other event d.number ev none part d.number_is d.new_is a
-    by_does (request.Deliver other time octets) Last (reply.Saved uid own) s ev none part d = changed other (add_last (record { uid = uid.0; flags = 0; time = time; guid = own.0; octets = octets })) (λ m. refl) (λ m. refl) d.new_is
+    by_does (request.Deliver other time octets) Last (reply.Saved uid own) s ev none part d = changed other (add_last (record { uid = uid.0; flags = 0; time = time; guid = own.0; octets = octets; words = [] })) (λ m. refl) (λ m. refl) d.new_is
     by_does (request.Copy other uid target) Last (reply.Copied given) s ev none part d = changed target (add_last d.message) (λ m. refl) (λ m. refl) d.new_is
     by_does (request.Expunge other uid) First reply.Done s ev none part d = changed other (λ m. record m { messages = without_first (is_message_of_uid uid.0) m.messages }) (λ m. refl) (λ m. refl) d
     by_does (request.Flag other uid flags) First reply.Done s ev none part d =

@@ -139,7 +139,7 @@ does_so run event old (request.Flag name uid flags) First reply.Done new d = (re
 does_so run event old (request.Make name) Last reply.Done new d = (refl, (d.number, d.new_is))
 does_so run event old (request.Delete name) First reply.Done new d = (refl, tt)
 does_so run event old (request.Rename name target) First reply.Done new d = (refl, tt)
-does_so run event old (request.Deliver name time octets) Last (reply.Saved uid own) new d = (refl, (record { uid = uid.0; flags = 0; time = time; guid = own.0; octets = octets }, refl, d.new_is))
+does_so run event old (request.Deliver name time octets) Last (reply.Saved uid own) new d = (refl, (record { uid = uid.0; flags = 0; time = time; guid = own.0; octets = octets; words = [] }, refl, d.new_is))
 does_so run event old (request.Copy name uid target) Last (reply.Copied given) new d = (refl, (d.message, d.source_is, d.new_is))
 does_so run event old (request.Move name uid target) Last (reply.Copied given) new d = (refl, tt)
 does_so run event old (request.Move name uid target) SecondHalf (reply.Moved given gone) new d = (refl, tt)

@@ -16,7 +16,7 @@ abbrev pub lists_done : Request → Lists → Lists
 lists_done (request.Make name) lists = lists ++ empty_mailbox 0 name ∷ []
 lists_done (request.Delete name) lists = delete_mailbox name lists
 lists_done (request.Rename name target) lists = rename_mailbox name target lists
-lists_done (request.Deliver name time octets) lists = add_message name (record { uid = 0; flags = 0; time = time; guid = []; octets = octets }) lists
+lists_done (request.Deliver name time octets) lists = add_message name (record { uid = 0; flags = 0; time = time; guid = []; octets = octets; words = [] }) lists
 lists_done (request.Copy name uid target) lists = with_copy name uid.0 target lists
 lists_done (request.Move name uid target) lists = expunge name uid.0 (with_copy name uid.0 target lists)
 lists_done (request.Expunge name uid) lists = expunge name uid.0 lists

@@ -280,7 +280,7 @@ abbrev pub Adds : Run → Lists → List ℕ → RunEvent → ListedMessage → 
 Adds run lists target event message =
     (mailbox : Mailbox) × (held : ℕ) × (mailbox_named target lists ≡ Some mailbox) × (uid_held event.request run ≡ Some held)
     × (event ≡ record (plain event) {
-      box_entries = adds_to mailbox (box.A (record { 0 = mailbox.next_uid }) message.flags message.time (length message.octets) (record { 0 = held }) (record { 0 = message.guid }));
+      box_entries = adds_to mailbox (box.A (record { 0 = mailbox.next_uid }) message.flags message.time (length message.octets) (record { 0 = held }) (record { 0 = message.guid }) message.words);
     })
 
 -- the count of the record that is held, or owed, is lowered
@@ -331,7 +331,7 @@ DidDeliver around run lists name time octets event StoresRecord =
       drew = record no_numbers { map = 1 };
     })
 DidDeliver around run lists name time octets event Last =
-    (guid : List ℕ) × (guid_given event.request run ≡ Some guid) × Adds run lists name event (record { uid = 0; flags = 0; time = time; guid = guid; octets = octets })
+    (guid : List ℕ) × (guid_given event.request run ≡ Some guid) × Adds run lists name event (record { uid = 0; flags = 0; time = time; guid = guid; octets = octets; words = [] })
 DidDeliver around run lists name time octets event GivesBack = Lowers (uid_held event.request run) event
 DidDeliver around run lists name time octets event part = ⊥
 

@@ -23,7 +23,7 @@ abbrev pub hello : List ℕ
 hello = codes "Hello"
 
 abbrev pub message : ℕ → ListedMessage
-message uid = record { uid = uid; flags = 0; time = 7; guid = example_guid; octets = hello }
+message uid = record { uid = uid; flags = 0; time = 7; guid = example_guid; octets = hello; words = [] }
 
 abbrev pub mailbox : ℕ → List ℕ → ℕ → List ListedMessage → Mailbox
 mailbox number name next messages = record { number = number; name = name; next_uid = next; messages = messages }
@@ -59,11 +59,11 @@ stores_event = record (event_of 1 0 StoresRecord 9) { map_entries = stored ∷ [
 abbrev pub adds_event : RunEvent
 adds_event = record (event_of 1 0 Last 13) {
   reply = Some (reply.Saved (record { 0 = 1 }) (record { 0 = example_guid }));
-  box_entries = record { mailbox = 1; entry = box.A (record { 0 = 1 }) 0 7 5 (record { 0 = 1 }) (record { 0 = example_guid }) } ∷ [];
+  box_entries = record { mailbox = 1; entry = box.A (record { 0 = 1 }) 0 7 5 (record { 0 = 1 }) (record { 0 = example_guid }) [] } ∷ [];
 }
 
 abbrev pub lists_event : RunEvent
-lists_event = record (event_of 1 1 First 13) { reply = Some (reply.Listed (record { uid = record { 0 = 1 }; flags = 0; size = 5; time = 7; guid = record { 0 = example_guid } } ∷ [])) }
+lists_event = record (event_of 1 1 First 13) { reply = Some (reply.Listed (record { uid = record { 0 = 1 }; flags = 0; size = 5; time = 7; guid = record { 0 = example_guid }; words = [] } ∷ [])) }
 
 abbrev pub first_run : Run
 first_run = record {
@@ -83,7 +83,7 @@ step_listed = record {
   request = 1;
   half = Whole;
   event = 5;
-  answer = reply.Listed (record { uid = record { 0 = 1 }; flags = 0; size = 5; time = 7; guid = record { 0 = example_guid } } ∷ []);
+  answer = reply.Listed (record { uid = record { 0 = 1 }; flags = 0; size = 5; time = 7; guid = record { 0 = example_guid }; words = [] } ∷ []);
   left = lists_saved;
 }
 
@@ -142,7 +142,7 @@ abbrev pub three : List ListedMessage → List ListedMessage → List ListedMess
 three x y z m n = mailbox 1 inbox 2 x ∷ mailbox 2 a_box m y ∷ mailbox 3 b_box n z ∷ []
 
 abbrev pub added : ℕ → RunEvent → RunEvent
-added number event = record event { box_entries = record { mailbox = number; entry = box.A (record { 0 = 1 }) 0 7 5 (record { 0 = 1 }) (record { 0 = example_guid }) } ∷ [] }
+added number event = record event { box_entries = record { mailbox = number; entry = box.A (record { 0 = 1 }) 0 7 5 (record { 0 = 1 }) (record { 0 = example_guid }) [] } ∷ [] }
 
 abbrev pub third_lists : Lists
 third_lists = three (message 1 ∷ []) [] [] 1 1

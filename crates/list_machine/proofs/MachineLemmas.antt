@@ -107,7 +107,7 @@ copied_refs old new name uid target given guid c =
 delivered_refs : (run : Run) (event : RunEvent) (old new : Lists) (name : List ℕ) (time : ℕ) (octets : List ℕ) (given : ℕ) (own guid : List ℕ) → IsDelivered run event old name time octets given own new →
     refs_of new guid + 0 ≡ refs_of old guid + (if bytes_eq own guid then 1 else 0)
 delivered_refs run event old new name time octets given own guid d =
-    let k = refs_added_last old name (record { uid = given; flags = 0; time = time; guid = own; octets = octets }) d.mailbox guid d.target_is in
+    let k = refs_added_last old name (record { uid = given; flags = 0; time = time; guid = own; octets = octets; words = [] }) d.mailbox guid d.target_is in
     let n = ap (λ (lists : Lists). refs_of lists guid) d.new_is in
     omega (arith, k, n)
 

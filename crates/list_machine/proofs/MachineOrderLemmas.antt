@@ -76,7 +76,7 @@ with_messages mailbox messages o rising below in_range = record {
 }
 
 flagged_fits : (message : ListedMessage) (flags : ℕ) → flags ≤ 31 → IsMessageInRange message → IsMessageInRange (record message { flags = flags })
-flagged_fits message flags le f = record { uid_some = f.uid_some; uid_fits = f.uid_fits; flags = le; time = f.time; guid = f.guid; size = f.size }
+flagged_fits message flags le f = record { uid_some = f.uid_some; uid_fits = f.uid_fits; flags = le; time = f.time; guid = f.guid; size = f.size; words = f.words }
 
 flagged_in_order : (mailbox : Mailbox) (uid flags : ℕ) → flags ≤ 31 → IsMailboxInOrder mailbox → IsMailboxInOrder (record mailbox { messages = change_first (is_message_of_uid uid) (λ message. record message { flags = flags }) mailbox.messages })
 flagged_in_order mailbox uid flags le o =
@@ -109,7 +109,7 @@ added_in_order mailbox message le f o =
       next_fits = omega (arith, le);
       rising = pairs_push Rises mailbox.messages last o.rising o.below;
       below = All-push (IsBelow (mailbox.next_uid + 1)) mailbox.messages last (All-weaker (IsBelow mailbox.next_uid) (IsBelow (mailbox.next_uid + 1)) (λ x h. omega (arith, h)) mailbox.messages o.below) (omega arith);
-      in_range = All-push IsMessageInRange mailbox.messages last o.in_range (record { uid_some = some; uid_fits = le; flags = f.flags; time = f.time; guid = f.guid; size = f.size });
+      in_range = All-push IsMessageInRange mailbox.messages last o.in_range (record { uid_some = some; uid_fits = le; flags = f.flags; time = f.time; guid = f.guid; size = f.size; words = f.words });
     }
 
 empty_in_order : (number : ℕ) (name : List ℕ) → 1 ≤ number → number ≤ 4294967294 → IsName name → IsMailboxInOrder (empty_mailbox number name)
@@ -256,7 +256,7 @@ listed_fits old name uid message w e = by_mailbox (mailbox_named name old) refl 
     by_mailbox (Some mailbox) h f = found_among (is_message_of_uid uid) mailbox.messages message IsMessageInRange f (found_among (has_name name) old mailbox IsMailboxInOrder h w.each).in_range
 
 content_of : (message : ListedMessage) → IsMessageInRange message → IsContentInRange message
-content_of message f = record { flags = f.flags; time = f.time; guid = f.guid; size = f.size }
+content_of message f = record { flags = f.flags; time = f.time; guid = f.guid; size = f.size; words = f.words }
 
 copied_well : (run : Run) (old new : Lists) (name : List ℕ) (uid : ℕ) (target : List ℕ) (given : ℕ) → AreWellFormed old → first_refusal run old (HasMailbox name ∷ HasMailbox target ∷ HasUid name uid ∷ RoomForMessage target ∷ NextUid target ∷ []) ≡ None
     → IsCopied old name uid target given new → AreWellFormed new
@@ -276,7 +276,7 @@ delivered_well run event old new name time octets given own w f e d =
     let e2 = (or_none (refusal_at run old (RoomForMessage name)) _ e1).1 in
     let room = (or_none (refusal_at run old (NextUid name)) None e2).0 in
     subst AreWellFormed (sym d.new_is)
-    (added_well old name (record { uid = given; flags = 0; time = time; guid = own; octets = octets }) d.mailbox d.target_is (next_fits run old name d.mailbox d.target_is room)
+    (added_well old name (record { uid = given; flags = 0; time = time; guid = own; octets = octets; words = [] }) d.mailbox d.target_is (next_fits run old name d.mailbox d.target_is room)
     (record { flags = omega arith; time = f.0; guid = d.guid_length; size = f.1 }) w)
 
 made_well : (run : Run) (event : RunEvent) (old new : Lists) (name : List ℕ) → AreWellFormed old → IsName name → first_refusal run old (IsNewName name ∷ RoomForMailbox ∷ []) ≡ None → IsMade run event old name new → AreWellFormed new

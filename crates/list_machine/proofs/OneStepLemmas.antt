@@ -27,7 +27,7 @@ moved_reply u v gone late p q = ap (λ (n : ℕ). reply.Moved (record { 0 = n })
 
 -- the lists with a message of this UID and GUID
 abbrev with_saved : List ℕ → ℕ → List ℕ → Lists → ℕ → List ℕ → Lists
-with_saved name time octets old uid guid = add_message name (record { uid = uid; flags = 0; time = time; guid = guid; octets = octets }) old
+with_saved name time octets old uid guid = add_message name (record { uid = uid; flags = 0; time = time; guid = guid; octets = octets; words = [] }) old
 
 delivered_one : (run : Run) (event : RunEvent) (old : Lists) (name : List ℕ) (time : ℕ) (octets : List ℕ) (u v : Uid) (g h : Guid) (new other : Lists) →
     IsDelivered run event old name time octets u.0 g.0 new → IsDelivered run event old name time octets v.0 h.0 other → IsOne (reply.Saved u g) (reply.Saved v h) new other

@@ -191,7 +191,7 @@ pub record IsCopied (old : Lists) (name : List ℕ) (uid : ℕ) (target : List �
   pub given_is : given ≡ mailbox.next_uid
   pub new_is : new ≡ add_message target message old
 
--- A delivery: the message goes last into the mailbox, with flags 0 and a GUID of its own, which the event's entry tells.
+-- A delivery: the message goes last into the mailbox, with flags 0, no keywords and a GUID of its own, which the event's entry tells.
 pub record IsDelivered (run : Run) (event : RunEvent) (old : Lists) (name : List ℕ) (time : ℕ) (octets : List ℕ) (given : ℕ) (guid : List ℕ) (new : Lists) : Type 0 where
   pub mailbox : Mailbox
   pub target_is : mailbox_named name old ≡ Some mailbox
@@ -201,7 +201,7 @@ pub record IsDelivered (run : Run) (event : RunEvent) (old : Lists) (name : List
   pub guid_octets : IsOctets guid
   pub guid_unlisted : refs_of old guid ≡ 0
   pub guid_new : All (λ other. other ≢ guid) (given_by_others event.request run)
-  pub new_is : new ≡ add_message name (record { uid = given; flags = 0; time = time; guid = guid; octets = octets }) old
+  pub new_is : new ≡ add_message name (record { uid = given; flags = 0; time = time; guid = guid; octets = octets; words = [] }) old
 
 -- A make: an empty mailbox is last, with the number that the event's entry tells: above all others and above the highest
 -- of the map, and drawn.

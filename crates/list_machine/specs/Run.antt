@@ -172,15 +172,15 @@ given_by_others request run = flat_map (λ e. e.given) (filter (λ e. not (e.req
 
 -- the UID and the GUID of the first message that these entries add, and the number of the first mailbox that they make
 abbrev pub uid_in : BoxEntry → Option ℕ
-uid_in (box.A uid flags time size map_uid guid) = Some uid.0
+uid_in (box.A uid flags time size map_uid guid words) = Some uid.0
 uid_in entry = None
 
 abbrev pub map_uid_in : BoxEntry → Option ℕ
-map_uid_in (box.A uid flags time size map_uid guid) = Some map_uid.0
+map_uid_in (box.A uid flags time size map_uid guid words) = Some map_uid.0
 map_uid_in entry = None
 
 abbrev pub guid_in : BoxEntry → Option (List ℕ)
-guid_in (box.A uid flags time size map_uid guid) = Some guid.0
+guid_in (box.A uid flags time size map_uid guid words) = Some guid.0
 guid_in entry = None
 
 abbrev pub number_in : MapEntry → Option ℕ

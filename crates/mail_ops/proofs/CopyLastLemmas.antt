@@ -48,19 +48,19 @@ pub record CopyKnown {D : Type 0} (store : StoreValue D) (name : List ℕ) (uid 
   pub shows : ShowLists store.map.boxes (meanings_by number (added_copy given row) store.map.boxes (indexes_of store.boxes)) (add_message target shown.message lists)
 
 message_as : (row : LogRow) (message : ListedMessage) (given : ℕ) (target : List ℕ) (lists : Lists) → listed_row row ≡ listing_row message
-    → add_message target (record { uid = given; flags = row.flags; time = row.time; guid = row.guid; octets = message.octets }) lists ≡ add_message target message lists
+    → add_message target (record { uid = given; flags = row.flags; time = row.time; guid = row.guid; octets = message.octets; words = row.words }) lists ≡ add_message target message lists
 message_as row message given target lists e =
-    ap (λ (r : ListRow). add_message target (record { uid = given; flags = r.flags; time = r.time; guid = r.guid.0; octets = message.octets }) lists) e
+    ap (λ (r : ListRow). add_message target (record { uid = given; flags = r.flags; time = r.time; guid = r.guid.0; octets = message.octets; words = r.words }) lists) e
 
-made_alike : (row : LogRow) (message : ListedMessage) (given : Uid) → listed_row row ≡ listing_row message → map listed_row (record { uid = given.0; flags = row.flags; time = row.time; size = row.size; map_uid = row.map_uid; guid = row.guid } ∷ [])
-    ≡ map listing_row (record { uid = given.0; flags = row.flags; time = row.time; guid = row.guid; octets = message.octets } ∷ [])
-made_alike row message given e = ap (λ (r : ListRow). record { uid = record { 0 = given.0 }; flags = row.flags; size = r.size; time = row.time; guid = record { 0 = row.guid } } ∷ []) e
+made_alike : (row : LogRow) (message : ListedMessage) (given : Uid) → listed_row row ≡ listing_row message → map listed_row (record { uid = given.0; flags = row.flags; time = row.time; size = row.size; map_uid = row.map_uid; guid = row.guid; words = row.words } ∷ [])
+    ≡ map listing_row (record { uid = given.0; flags = row.flags; time = row.time; guid = row.guid; octets = message.octets; words = row.words } ∷ [])
+made_alike row message given e = ap (λ (r : ListRow). record { uid = record { 0 = given.0 }; flags = row.flags; size = r.size; time = row.time; guid = record { 0 = row.guid }; words = row.words } ∷ []) e
 
 copy_gives : (lists : Lists) (target : List ℕ) (row : LogRow) (message : ListedMessage) (number : ℕ) (given : Uid) (mailbox : Mailbox) → AreWellFormed lists → mailbox_named target lists ≡ Some mailbox → mailbox.number ≡ number → given.0 ≡ mailbox.next_uid → listed_row row ≡ listing_row message
     → lists_by number message.octets (added_copy given row) lists ≡ add_message target message lists
 copy_gives lists target row message number given mailbox well named number_is given_is same =
     subst (λ (k : ℕ). lists_by k message.octets (added_copy given row) lists ≡ add_message target message lists) number_is
-    (added_by lists target mailbox message.octets given row.flags row.time row.size (record { 0 = row.map_uid }) (record { 0 = row.guid }) well named given_is ∙ message_as row message given.0 target lists same)
+    (added_by lists target mailbox message.octets given row.flags row.time row.size (record { 0 = row.map_uid }) (record { 0 = row.guid }) row.words well named given_is ∙ message_as row message given.0 target lists same)
 
 pub copy_known : {D : Type 0} → (store : StoreValue D) (name : List ℕ) (uid : Uid) (target : List ℕ) (row : LogRow) (number : ℕ) (given : Uid) (lists : Lists) → CopyPlace name uid.0 target store row number given.0 → AreWellFormed lists → ShowLists store.map.boxes (indexes_of store.boxes) lists
     → CopyKnown store name uid target row number given lists
@@ -106,6 +106,7 @@ brings_copy (Some h) store name uid target row number given lists is runs at k s
         time = refl;
         guid = refl;
         size = sym (ap (λ (n : ListRow). n.size) k.shown.same);
+        words = refl;
         entry = r.entry;
         found = r.found;
         same = r.guid_is;
@@ -190,7 +191,7 @@ add_stopped q name uid target half held source Stands store history faults c sto
 abbrev pub adding : ℕ → ℕ → Mailbox → ListedMessage → ℕ → Option Reply → ℕ → RunEvent
 adding lane place mailbox message held ended calls = record (event_of lane place Last calls) {
   reply = ended;
-  box_entries = adds_to mailbox (box_entry.A (record { 0 = mailbox.next_uid }) message.flags message.time (length message.octets) (record { 0 = held }) (record { 0 = message.guid }));
+  box_entries = adds_to mailbox (box_entry.A (record { 0 = mailbox.next_uid }) message.flags message.time (length message.octets) (record { 0 = held }) (record { 0 = message.guid }) message.words);
 }
 
 pub added_due : {D : Type 0} → (held : MapUid) (given : Uid) (row : LogRow) (m : BoxMeaning) (old new : StoreValue D) (uid : ℕ) → held.0 ≡ row.map_uid → one_due held.0 uid ≤ due_at uid old → due_at uid new ≡ due_by_box m (added_copy given row) (λ other. due_at other old) uid

@@ -10,10 +10,7 @@ use Rattle.list_machine.specs.Machine.{set_flags}
 use Rattle.entry_steps.proofs.AppendListLemmas.{flagged_by}
 use Rattle.mail_ops.proofs.NamedListLemmas.{ShownBox, ShowsBox, shows_box}
 
--- ---- rows and messages, flag by flag
-
-made_row : ℕ → ℕ → ℕ → ℕ → List ℕ → ListRow
-made_row uid flags size time guid = record { uid = record { 0 = uid }; flags = flags; size = size; time = time; guid = record { 0 = guid } }
+-- ---- rows and messages, with flags and with keywords
 
 pub flag_row : (u flags : ℕ) (row : LogRow) (x : ListedMessage) → listed_row row ≡ listing_row x → listed_row (if u == row.uid then record row { flags = flags } else row) ≡ listing_row (if u == x.uid then record x { flags = flags } else x)
 flag_row u flags row x e =
@@ -22,6 +19,17 @@ flag_row u flags row x e =
   where
     by_test : (t s : Bool) → t ≡ s → listed_row (if t then record row { flags = flags } else row) ≡ listing_row (if s then record x { flags = flags } else x)
     by_test true true p = ap (λ (r : ListRow). record r { flags = flags }) e
+    by_test false false p = e
+    by_test true false p = absurd (cc p)
+    by_test false true p = absurd (cc p)
+
+pub words_row : (u : ℕ) (words : List (List ℕ)) (row : LogRow) (x : ListedMessage) → listed_row row ≡ listing_row x → listed_row (if u == row.uid then record row { words = words } else row) ≡ listing_row (if u == x.uid then record x { words = words } else x)
+words_row u words row x e =
+    let same : row.uid ≡ x.uid = ap (λ (r : ListRow). r.uid.0) e in
+    by_test (u == row.uid) (u == x.uid) (ap (λ (n : ℕ). u == n) same)
+  where
+    by_test : (t s : Bool) → t ≡ s → listed_row (if t then record row { words = words } else row) ≡ listing_row (if s then record x { words = words } else x)
+    by_test true true p = ap (λ (r : ListRow). record r { words = words }) e
     by_test false false p = e
     by_test true false p = absurd (cc p)
     by_test false true p = absurd (cc p)

@@ -84,9 +84,9 @@ none_behind : (t : Bool) (found : Option LogRow) (new row : LogRow) → t ≡ fa
 none_behind t found new row e there = grind (arith, common_steps, nat_tests)
 
 -- it gets the next UID
-pub addition_keeps : (given : Uid) (flags time size : ℕ) (map_uid : MapUid) (guid : Guid) (m : BoxMeaning) → given.0 ≡ m.next → KeepsRows (entry.A given flags time size map_uid guid) m
-addition_keeps given flags time size map_uid guid m next uid row below there =
-    found_same m.rows uid row (none_behind (given.0 == uid) (find (λ r. r.uid == uid) m.rows) new row (ne_eqb given.0 uid (λ e. omega (arith, e, next, below))) (sym (ap (find (λ r. r.uid == uid)) (rows_by_added given flags time size map_uid guid m.rows) ∙ find-append (λ r. r.uid == uid) m.rows (new ∷ [])) ∙ there))
+pub addition_keeps : (given : Uid) (flags time size : ℕ) (map_uid : MapUid) (guid : Guid) (words : List (List ℕ)) (m : BoxMeaning) → given.0 ≡ m.next → KeepsRows (entry.A given flags time size map_uid guid words) m
+addition_keeps given flags time size map_uid guid words m next uid row below there =
+    found_same m.rows uid row (none_behind (given.0 == uid) (find (λ r. r.uid == uid) m.rows) new row (ne_eqb given.0 uid (λ e. omega (arith, e, next, below))) (sym (ap (find (λ r. r.uid == uid)) (rows_by_added given flags time size map_uid guid words m.rows) ∙ find-append (λ r. r.uid == uid) m.rows (new ∷ [])) ∙ there))
   where
     new : LogRow
-    new = record { uid = given.0; flags = flags; time = time; size = size; map_uid = map_uid.0; guid = guid.0 }
+    new = record { uid = given.0; flags = flags; time = time; size = size; map_uid = map_uid.0; guid = guid.0; words = words }

@@ -102,7 +102,7 @@ raised_source name uid target held source old new before after began now r = too
 pub addition_left : {D : Type 0} → (name : List ℕ) (uid : Uid) (target : List ℕ) (held : MapUid) (source : BoxNo) (given : Uid) (old new : StoreValue D) (before after : Option History) (began now : Faults) → AddsRow name uid target held source given old new before after began now → KeepsUids old new
 addition_left name uid target held source given old new before after began now r =
     entry_keeps r.number (added_copy given r.row) r.at.m old new r.took.appends.map r.took.taken r.at.to.numbered
-    (addition_keeps given r.row.flags r.row.time r.row.size (record { 0 = r.row.map_uid }) (record { 0 = r.row.guid }) r.at.m r.at.next_is)
+    (addition_keeps given r.row.flags r.row.time r.row.size (record { 0 = r.row.map_uid }) (record { 0 = r.row.guid }) r.row.words r.at.m r.at.next_is)
 
 pub removal_left : {D : Type 0} → (number : ℕ) (uid : Uid) (m : BoxMeaning) (old new : StoreValue D) (before after : Option History) (began now : Faults) → list_numbered old number ≡ Some m → BoxTook number (box_entry.R uid) old new before after began now → KeepsUids old new
 removal_left number uid m old new before after began now numbered t = entry_keeps number (box_entry.R uid) m old new t.appends.map t.taken numbered (removal_keeps uid m)

@@ -110,7 +110,7 @@ add_leaves mine name uid target held source given old new before after began now
     by_guid rec listed false e =
         none_more (references_to new rec.guid) (references_to old rec.guid)
         (subst (λ (ms : List BoxMeaning). refs_in ms rec.guid ≤ references_to old rec.guid) (sym r.took.taken)
-        (entry_refs rec.guid r.number (added_copy given r.row) old.map.boxes (indexes_of old.boxes) (addition_lists rec.guid given r.row.flags r.row.time r.row.size (record { 0 = r.row.map_uid }) (record { 0 = r.row.guid }) e))) listed
+        (entry_refs rec.guid r.number (added_copy given r.row) old.map.boxes (indexes_of old.boxes) (addition_lists rec.guid given r.row.flags r.row.time r.row.size (record { 0 = r.row.map_uid }) (record { 0 = r.row.guid }) r.row.words e))) listed
 
     refs : (u : ℕ) (rec : MapRecord) → references_to old rec.guid ≡ 0 → references_to new rec.guid ≡ 0
     refs u rec listed = by_guid rec listed (bytes_eq r.row.guid rec.guid) refl

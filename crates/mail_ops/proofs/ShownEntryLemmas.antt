@@ -6,7 +6,7 @@ use Rattle.mdbox_base.specs.declared.entries.BoxEntry.TheVariants as entry
 use Rattle.model_meaning.specs.BoxMeaning.{row_made, row_removed, next_named}
 use Rattle.model_appends.specs.Appending.{message_made, message_removed, message_changed, mailbox_by}
 use Rattle.model_store.specs.Listing.{ShowsMailbox}
-use Rattle.mail_ops.proofs.FlagListLemmas.{flag_row}
+use Rattle.mail_ops.proofs.FlagListLemmas.{flag_row, words_row}
 
 -- the message that an entry makes is that of its row
 abbrev pub MakesAlike : List ℕ → BoxEntry → Type 0
@@ -14,8 +14,9 @@ MakesAlike octets e = map listed_row (row_made e) ≡ map listing_row (message_m
 
 alike : (e : BoxEntry) (r : LogRow) (x : ListedMessage) → listed_row r ≡ listing_row x → (row_removed e r ≡ message_removed e x) × (listed_row (row_changed e r) ≡ listing_row (message_changed e x))
 alike (entry.N next) r x h = (refl, h)
-alike (entry.A uid flags time size map_uid guid) r x h = (refl, h)
+alike (entry.A uid flags time size map_uid guid words) r x h = (refl, h)
 alike (entry.F uid flags) r x h = (refl, flag_row uid.0 flags r x h)
+alike (entry.K uid words) r x h = (refl, words_row uid.0 words r x h)
 alike (entry.R uid) r x h = (ap (λ (row : ListRow). uid.0 == row.uid.0) h, h)
 
 kept_rows : (e : BoxEntry) (rows : List LogRow) (xs : List ListedMessage) → map listed_row rows ≡ map listing_row xs

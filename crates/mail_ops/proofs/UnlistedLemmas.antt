@@ -43,10 +43,10 @@ flag_count guid uid flags (r ∷ rs) =
 pub flag_lists : (guid : List ℕ) (uid : Uid) (flags : ℕ) → ListsNoMore guid (box_entry.F uid flags)
 flag_lists guid uid flags m = let e = ap (λ (rows : List LogRow). count_by (has_guid guid) rows) (rows_by_flagged uid flags m.rows) ∙ flag_count guid uid flags m.rows in omega (arith, e)
 
-pub addition_lists : (guid : List ℕ) (uid : Uid) (flags time size : ℕ) (map_uid : MapUid) (given : Guid) → bytes_eq given.0 guid ≡ false → ListsNoMore guid (box_entry.A uid flags time size map_uid given)
-addition_lists guid uid flags time size map_uid given other m =
-    let new : LogRow = record { uid = uid.0; flags = flags; time = time; size = size; map_uid = map_uid.0; guid = given.0 } in
-    let a : count_by (has_guid guid) (box_applied (box_entry.A uid flags time size map_uid given) m).rows ≡ count_by (has_guid guid) (m.rows ++ new ∷ []) = ap (λ (rows : List LogRow). count_by (has_guid guid) rows) (rows_by_added uid flags time size map_uid given m.rows) in
+pub addition_lists : (guid : List ℕ) (uid : Uid) (flags time size : ℕ) (map_uid : MapUid) (given : Guid) (words : List (List ℕ)) → bytes_eq given.0 guid ≡ false → ListsNoMore guid (box_entry.A uid flags time size map_uid given words)
+addition_lists guid uid flags time size map_uid given words other m =
+    let new : LogRow = record { uid = uid.0; flags = flags; time = time; size = size; map_uid = map_uid.0; guid = given.0; words = words } in
+    let a : count_by (has_guid guid) (box_applied (box_entry.A uid flags time size map_uid given words) m).rows ≡ count_by (has_guid guid) (m.rows ++ new ∷ []) = ap (λ (rows : List LogRow). count_by (has_guid guid) rows) (rows_by_added uid flags time size map_uid given words m.rows) in
     let b : count_by (has_guid guid) (m.rows ++ new ∷ []) ≡ count_by (has_guid guid) m.rows + count_by (has_guid guid) (new ∷ []) = sum_by-append (λ (x : LogRow). cond (has_guid guid x) 1 0) m.rows (new ∷ []) in
     let c : count_by (has_guid guid) (new ∷ []) ≡ 0 = counted guid new [] ∙ ap (λ (t : Bool). cond t 1 0 + count_by (has_guid guid) []) other in
     omega (arith, a, b, c)

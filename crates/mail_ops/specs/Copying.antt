@@ -51,7 +51,7 @@ abbrev pub raising_of : MapUid → MapEntry
 raising_of uid = map_entry.U uid
 
 abbrev pub added_copy : Uid → LogRow → BoxEntry
-added_copy given row = box_entry.A given row.flags row.time row.size (record { 0 = row.map_uid }) (record { 0 = row.guid })
+added_copy given row = box_entry.A given row.flags row.time row.size (record { 0 = row.map_uid }) (record { 0 = row.guid }) row.words
 
 -- The count of the message's record was raised, of the mailbox with this number.
 pub record RaisesRow {D : Type 0} (name : List ℕ) (uid : Uid) (target : List ℕ) (held : MapUid) (source : BoxNo) (old new : StoreValue D) (before after : Option History) (began now : Faults) : Type 0 where

@@ -23,22 +23,22 @@ const LAST_UID: u64 = 4_294_967_294;
 const MOST_COPIES: u16 = 65_535;
 
 /// A message that can be copied: its row, the numbers of its mailbox and of its target, and the target's next UID.
-#[derive(Clone, Copy, Debug, PartialEq, Eq)]
-pub(crate) struct CopyAt {
-    pub row: BoxRow,
+#[derive(Clone, Copy)]
+pub(crate) struct CopyAt<'a> {
+    pub row: &'a BoxRow,
     pub source: BoxNo,
     pub target: BoxNo,
     pub next: Uid,
 }
 
 /// Finds a message and the mailbox that it is to be copied to, which has room for it.
-fn find_copy<D: Disk>(
-    store: &Store<D>,
+fn find_copy<'a, D: Disk>(
+    store: &'a Store<D>,
     name: &Name,
     uid: Uid,
     target: &Name,
-) -> Result<CopyAt, Refusal>
-    ensures found { IfOk result (λ at. CopyPlace name.now uid.0 target.now store.now (row_of at.row) at.target.0 at.next.0) }
+) -> Result<CopyAt<'a>, Refusal>
+    ensures found { IfOk result (λ at. CopyPlace name.now uid.0 target.now store.now (row_of at.row.now) at.target.0 at.next.0) }
     ensures source { IfOk result (λ at. number_named store.now.map name.now ≡ Some at.source.0) }
     ensures refused { IfErr result (λ why. copy_refusal name.now uid.0 target.now store.now ≡ Some why) }
 {
@@ -96,22 +96,22 @@ pub(crate) fn raise<D: Disk>(
     ensures refused { IfErr result (λ error. IsNotRaised name.now uid target.now error store.old store.new (D.history store.old.disk) (D.history store.new.disk) (D.faults store.old.disk) (D.faults store.new.disk)) }
 {
     store.facts();
-    let at = find_copy(store, name, uid, target)?;
-    if store.count_of(at.row.guid) >= MOST_COPIES {
+    let CopyAt { row, source, .. } = find_copy(store, name, uid, target)?;
+    if store.count_of(row.guid) >= MOST_COPIES {
         return Err(NotDone::Refused(Refusal::TooManyCopies(u64::from(MOST_COPIES))));
     }
-    let held = Lowering::of(store.alloc(), at.row.map_uid)?;
-    match store.append_map(&MapEntry::U {
-        uid: at.row.map_uid,
-    }) {
-        Ok(()) => Ok((held, at.source)),
+    let raised = row.map_uid;
+    let held = Lowering::of(store.alloc(), raised)?;
+    match store.append_map(&MapEntry::U { uid: raised }) {
+        Ok(()) => Ok((held, source)),
         Err(StepError::Stopped) => Err(NotDone::Stopped),
         Err(StepError::NoMemory) => unreachable!(),
     }
 }
 
-/// Adds the message, as it is listed now, to the target, by its record whose count was raised. It gets the target's next UID. None if
-/// the source's name names another mailbox than the one with this number: then nothing is added.
+/// Adds the message, as it is listed now, to the target, by its record whose count was raised. It gets the target's next UID. Its
+/// keywords are copied before, which takes memory. None if the source's name names another mailbox than the one with this number:
+/// then nothing is added.
 pub(crate) fn add<D: Disk>(
     store: &mut Store<D>,
     name: &Name,
@@ -137,6 +137,7 @@ pub(crate) fn add<D: Disk>(
     if now != began {
         return Ok(None);
     }
+    let words = row.words.texts(store.alloc())?;
     let entry = BoxEntry::A {
         uid: next,
         flags: row.flags.bits(),
@@ -144,6 +145,7 @@ pub(crate) fn add<D: Disk>(
         size: row.size,
         map_uid: row.map_uid,
         guid: row.guid,
+        words,
     };
     match store.append_box(number, &entry) {
         Ok(()) => Ok(Some(next)),

@@ -42,19 +42,21 @@ fn rows_of(alloc: Global, index: &BoxIndex) -> Result<Seq<ListRow>, NoMemory>
 {
     let mut rows = Vec::with_capacity(alloc, index.length() as usize)?;
     for row in index.rows() {
-        rows.push(row_of(row))?;
+        rows.push(row_of(alloc, row)?)?;
     }
     Ok(Seq::of(rows))
 }
 
-fn row_of(row: BoxRow) -> ListRow
-    ensures { result ≡ listed_row (shown row) }
+/// The row that lists a message, with a copy of its keywords.
+fn row_of(alloc: Global, row: &BoxRow) -> Result<ListRow, NoMemory>
+    ensures { IfOk result (λ listed. listed ≡ listed_row (shown row.now)) }
 {
-    ListRow {
+    Ok(ListRow {
         uid: row.uid,
         flags: row.flags,
         size: row.size,
         time: row.time,
         guid: row.guid,
-    }
+        words: row.words.copied(alloc)?,
+    })
 }

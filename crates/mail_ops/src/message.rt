@@ -9,12 +9,12 @@ use mdbox_base::{BoxNo, Name, Refusal, Uid};
 use store_core::Store;
 
 /// The number of the mailbox with this name, and its row with this UID.
-pub(crate) fn find_message<D: Disk>(
-    store: &Store<D>,
+pub(crate) fn find_message<'a, D: Disk>(
+    store: &'a Store<D>,
     name: &Name,
     uid: Uid,
-) -> Result<(BoxNo, BoxRow), Refusal>
-    ensures found { IfOk result (λ at. IsRowOf name.now uid.0 store.now at.0.0 (row_of at.1)) }
+) -> Result<(BoxNo, &'a BoxRow), Refusal>
+    ensures found { IfOk result (λ at. IsRowOf name.now uid.0 store.now at.0.0 (row_of at.1.now)) }
     ensures there { IfOk result (λ at. missing_message name.now uid.0 store.now ≡ None) }
     ensures refused { IfErr result (λ why. missing_message name.now uid.0 store.now ≡ Some why) }
 {
@@ -31,8 +31,8 @@ pub(crate) fn find_message<D: Disk>(
 }
 
 /// The row with this UID of the mailbox with this number. None if the mailbox isn't there, or doesn't list the UID.
-pub(crate) fn find_in<D: Disk>(store: &Store<D>, number: BoxNo, uid: Uid) -> Option<BoxRow>
-    ensures found { IfSome result (λ row. IsRowIn number.0 uid.0 store.now (row_of row)) }
+pub(crate) fn find_in<D: Disk>(store: &Store<D>, number: BoxNo, uid: Uid) -> Option<&BoxRow>
+    ensures found { IfSome result (λ row. IsRowIn number.0 uid.0 store.now (row_of row.now)) }
     ensures none { IfNone result (row_numbered number.0 uid.0 store.now ≡ None) }
 {
     let index = store.mailbox(number)?;

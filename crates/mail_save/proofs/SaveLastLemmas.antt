@@ -46,12 +46,12 @@ pub record IsInRange (time : ℕ) (octets : List ℕ) : Type 0 where
   pub small : length octets ≤ 67108864
 
 abbrev pub delivered : List ℕ → ℕ → List ℕ → List ℕ → ℕ → Lists → Lists
-delivered name time octets guid uid lists = add_message name (record { uid = uid; flags = 0; time = time; guid = guid; octets = octets }) lists
+delivered name time octets guid uid lists = add_message name (record { uid = uid; flags = 0; time = time; guid = guid; octets = octets; words = [] }) lists
 
 abbrev pub adding : ℕ → ℕ → Mailbox → ℕ → List ℕ → List ℕ → ℕ → Option Reply → ℕ → RunEvent
 adding lane place mailbox time octets guid held ended calls = record (event_of lane place Last calls) {
   reply = ended;
-  box_entries = adds_to mailbox (box_entry.A (record { 0 = mailbox.next_uid }) 0 time (length octets) (record { 0 = held }) (record { 0 = guid }));
+  box_entries = adds_to mailbox (box_entry.A (record { 0 = mailbox.next_uid }) 0 time (length octets) (record { 0 = held }) (record { 0 = guid }) []);
 }
 
 room_allows : (run : Run) (name time_octets guid : List ℕ) (time uid number : ℕ) (seen : Seen) (lists : Lists) (event : RunEvent) → FindsBox name guid uid number seen → ShowLists seen.map.boxes seen.meanings lists → first_refusal run lists (part_checks run event (deliver name time time_octets) Last) ≡ None

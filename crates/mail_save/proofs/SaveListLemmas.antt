@@ -117,7 +117,7 @@ same_rows rows xs row message h made =
 
 -- the entry of a message of these octets
 abbrev pub made_of : List ℕ → Uid → ℕ → MapUid → Guid → BoxEntry
-made_of octets uid time held guid = box_entry.A uid 0 time (length octets) held guid
+made_of octets uid time held guid = box_entry.A uid 0 time (length octets) held guid []
 
 -- what a message makes of a mailbox that is shown
 added_shown : (box : MapBox) (m : BoxMeaning) (x : Mailbox) (octets : List ℕ) (uid : Uid) (time : ℕ) (held : MapUid) (guid : Guid) → ShowsMailbox box m x
@@ -127,8 +127,8 @@ added_shown box m x octets uid time held guid s = record {
   name = s.name;
   next = ap (λ (n : ℕ). max n (uid.0 + 1)) s.next;
   rows =
-      let row : LogRow = record { uid = uid.0; flags = 0; time = time; size = length octets; map_uid = held.0; guid = guid.0 } in
-      let message : ListedMessage = record { uid = uid.0; flags = 0; time = time; guid = guid.0; octets = octets } in
+      let row : LogRow = record { uid = uid.0; flags = 0; time = time; size = length octets; map_uid = held.0; guid = guid.0; words = [] } in
+      let message : ListedMessage = record { uid = uid.0; flags = 0; time = time; guid = guid.0; octets = octets; words = [] } in
       ap (map listed_row) (only_adds m.rows (row ∷ [])) ∙ (same_rows m.rows x.messages row message s.rows refl ∙ sym (ap (map listing_row) (only_adds x.messages (message ∷ []))));
 }
 
@@ -155,8 +155,8 @@ pub record AddsTo (name : List ℕ) (time : ℕ) (octets guid : List ℕ) (uid n
   pub mailbox : Mailbox
   pub named : mailbox_named name lists ≡ Some mailbox
   pub given_is : uid ≡ mailbox.next_uid
-  pub by : lists_by number octets (made_of octets (record { 0 = uid }) time (record { 0 = held }) (record { 0 = guid })) lists ≡ add_message name (record { uid = uid; flags = 0; time = time; guid = guid; octets = octets }) lists
-  pub shows : ShowLists boxes (meanings_by number (made_of octets (record { 0 = uid }) time (record { 0 = held }) (record { 0 = guid })) boxes meanings) (add_message name (record { uid = uid; flags = 0; time = time; guid = guid; octets = octets }) lists)
+  pub by : lists_by number octets (made_of octets (record { 0 = uid }) time (record { 0 = held }) (record { 0 = guid })) lists ≡ add_message name (record { uid = uid; flags = 0; time = time; guid = guid; octets = octets; words = [] }) lists
+  pub shows : ShowLists boxes (meanings_by number (made_of octets (record { 0 = uid }) time (record { 0 = held }) (record { 0 = guid })) boxes meanings) (add_message name (record { uid = uid; flags = 0; time = time; guid = guid; octets = octets; words = [] }) lists)
 
 pub adds_to_box : (name : List ℕ) (time : ℕ) (octets guid : List ℕ) (uid number : ℕ) (boxes : List MapBox) (meanings : List BoxMeaning) (held : ℕ) (lists : Lists) (m : BoxMeaning) → meaning_named name boxes meanings ≡ Some m → option_map (λ b. b.number) (find (λ b. bytes_eq b.name name) boxes) ≡ Some number → uid ≡ m.next
     → AreWellFormed lists → ShowLists boxes meanings lists → AddsTo name time octets guid uid number boxes meanings held lists
@@ -164,8 +164,8 @@ adds_to_box name time octets guid uid number boxes meanings held lists m named n
     let t : ShownBox name lists m = subst (ShowsBox name lists) named (shows_box name boxes meanings lists h) in
     let same : t.mailbox.number ≡ number = numbered name number boxes meanings lists t.mailbox h number_is t.named in
     let given : uid ≡ t.mailbox.next_uid = next ∙ sym t.next in
-    let by = subst (λ (k : ℕ). lists_by k octets (made_of octets (record { 0 = uid }) time (record { 0 = held }) (record { 0 = guid })) lists ≡ add_message name (record { uid = uid; flags = 0; time = time; guid = guid; octets = octets }) lists) same
-    (added_by lists name t.mailbox octets (record { 0 = uid }) 0 time (length octets) (record { 0 = held }) (record { 0 = guid }) well t.named given) in
+    let by = subst (λ (k : ℕ). lists_by k octets (made_of octets (record { 0 = uid }) time (record { 0 = held }) (record { 0 = guid })) lists ≡ add_message name (record { uid = uid; flags = 0; time = time; guid = guid; octets = octets; words = [] }) lists) same
+    (added_by lists name t.mailbox octets (record { 0 = uid }) 0 time (length octets) (record { 0 = held }) (record { 0 = guid }) [] well t.named given) in
     record {
       mailbox = t.mailbox;
       named = t.named;

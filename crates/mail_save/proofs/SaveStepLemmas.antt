@@ -539,7 +539,7 @@ finds_box pins name guid number uid store history faults r none = record {
 
 -- the entry, by time and size of the message
 added_as : (uid : Uid) (added : Added) (time : ℕ) (octets : List ℕ) → added.time ≡ time → added.size ≡ length octets → entry_added uid added ≡ made_of octets uid time added.map_uid added.guid
-added_as uid added time octets t n = ap (λ (k : ℕ). box_entry.A uid 0 k added.size added.map_uid added.guid) t ∙ ap (λ (k : ℕ). box_entry.A uid 0 time k added.map_uid added.guid) n
+added_as uid added time octets t n = ap (λ (k : ℕ). box_entry.A uid 0 k added.size added.map_uid added.guid []) t ∙ ap (λ (k : ℕ). box_entry.A uid 0 time k added.map_uid added.guid []) n
 
 pub adding_saved : {D : Type 0} → (pins : ℕ → ℕ) (added : Added) (room : LowerRoom) (uid : Uid) (guid : Guid) (name : List ℕ) (time size : ℕ) (octets : List ℕ) (how : Did) (old new : StoreValue D) (before after : Option History) (began faulted : Faults) → EventOf (stage.Adding added room) stage.Ended name time size octets (progress.Done (reply.Saved uid guid)) how old new before after began faulted
     → guid ≡ added.guid → AddsStored name added uid old new → DeliveryClause pins octets (stage.Adding added room) stage.Ended name time (progress.Done (reply.Saved uid guid)) how old new before after began faulted

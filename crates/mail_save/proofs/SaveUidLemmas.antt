@@ -51,10 +51,10 @@ none_behind false None new row e there = there
 listed_before : (given : Uid) (added : Added) (m : BoxMeaning) (uid : ℕ) (row : LogRow) → given.0 ≡ m.next → uid < m.next → row_at (box_applied (entry_added given added) m) uid ≡ Some row → row_at m uid ≡ Some row
 listed_before given added m uid row next below there =
     none_behind (given.0 == uid) (find (λ r. r.uid == uid) m.rows) new row (ne_eqb given.0 uid (λ e. omega (arith, e, next, below)))
-    (sym (ap (find (λ r. r.uid == uid)) (rows_by_added given 0 added.time added.size added.map_uid added.guid m.rows) ∙ find-append (λ r. r.uid == uid) m.rows (new ∷ [])) ∙ there)
+    (sym (ap (find (λ r. r.uid == uid)) (rows_by_added given 0 added.time added.size added.map_uid added.guid [] m.rows) ∙ find-append (λ r. r.uid == uid) m.rows (new ∷ [])) ∙ there)
   where
     new : LogRow
-    new = record { uid = given.0; flags = 0; time = added.time; size = added.size; map_uid = added.map_uid.0; guid = added.guid.0 }
+    new = record { uid = given.0; flags = 0; time = added.time; size = added.size; map_uid = added.map_uid.0; guid = added.guid.0; words = [] }
 
 -- ---- no log of a mailbox has changed
 

@@ -50,8 +50,8 @@ has_guid guid row = bytes_eq row.guid guid
 -- no mailbox lists more messages of another GUID
 rows_more : (guid : List ℕ) (uid : Uid) (added : Added) (m : BoxMeaning) → bytes_eq added.guid.0 guid ≡ false → count_by (has_guid guid) (box_applied (entry_added uid added) m).rows ≡ count_by (has_guid guid) m.rows
 rows_more guid uid added m other =
-    let new : LogRow = record { uid = uid.0; flags = 0; time = added.time; size = added.size; map_uid = added.map_uid.0; guid = added.guid.0 } in
-    let a : count_by (has_guid guid) (box_applied (entry_added uid added) m).rows ≡ count_by (has_guid guid) (m.rows ++ new ∷ []) = ap (λ (rows : List LogRow). count_by (has_guid guid) rows) (rows_by_added uid 0 added.time added.size added.map_uid added.guid m.rows) in
+    let new : LogRow = record { uid = uid.0; flags = 0; time = added.time; size = added.size; map_uid = added.map_uid.0; guid = added.guid.0; words = [] } in
+    let a : count_by (has_guid guid) (box_applied (entry_added uid added) m).rows ≡ count_by (has_guid guid) (m.rows ++ new ∷ []) = ap (λ (rows : List LogRow). count_by (has_guid guid) rows) (rows_by_added uid 0 added.time added.size added.map_uid added.guid [] m.rows) in
     let b : count_by (has_guid guid) (m.rows ++ new ∷ []) ≡ count_by (has_guid guid) m.rows + count_by (has_guid guid) (new ∷ []) = sum_by-append (λ (x : LogRow). cond (has_guid guid x) 1 0) m.rows (new ∷ []) in
     let c : count_by (has_guid guid) (new ∷ []) ≡ 0 = sum_by-cons (λ (x : LogRow). cond (has_guid guid x) 1 0) new [] ∙ ap (λ (t : Bool). cond t 1 0 + count_by (has_guid guid) []) other in
     omega (arith, a, b, c)

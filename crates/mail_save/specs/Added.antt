@@ -1,5 +1,5 @@
 -- What is added to a mailbox.
-use Rattle.std.specs.Prelude.{◌≡◌, ◌<◌, ℕ, List, length, find, Some}
+use Rattle.std.specs.Prelude.{◌≡◌, ◌<◌, ℕ, List, [], length, find, Some}
 use Rattle.std.specs.Option.{option_map}
 use Rattle.std.specs.Str.{bytes_eq}
 use Rattle.mdbox_base.specs.declared.entries.BoxEntry.{BoxEntry}
@@ -20,6 +20,6 @@ pub record HasRoomUnder {D : Type 0} (name : List ℕ) (number : BoxNo) (uid : U
   pub room : length mailbox.rows < 1000000
   pub more : mailbox.next < 4294967295
 
--- the message with this UID, without flags
+-- the message with this UID, without flags and without keywords
 abbrev pub entry_added : Uid → Added → BoxEntry
-entry_added uid added = entry.A uid 0 added.time added.size added.map_uid added.guid
+entry_added uid added = entry.A uid 0 added.time added.size added.map_uid added.guid []

@@ -20,7 +20,7 @@ ghost use Rattle.mail_save.specs.Events.{box_refusal};
 ghost use Rattle.mail_save.specs.MailFiles.{ReadsSameMail};
 
 use disk_model::Disk;
-use mdbox_base::{BoxEntry, BoxNo, Guid, MapUid, Name, Refusal, Uid};
+use mdbox_base::{BoxEntry, BoxNo, Guid, MapUid, Name, Refusal, Seq, Uid};
 use store_core::{StepError, Store};
 
 /// How many messages a mailbox lists at the most.
@@ -60,7 +60,7 @@ pub struct Added {
     pub size: u32,
 }
 
-/// Adds a stored message to its mailbox, with the next UID and without flags.
+/// Adds a stored message to its mailbox, with the next UID, without flags and without keywords.
 pub fn add_message<D: Disk>(store: &mut Store<D>, name: &Name, added: Added) -> Result<Uid, Refusal>
     requires running { store.old.stopped ≡ false }
     requires size { added.size ≤ 67108864 }
@@ -95,6 +95,7 @@ pub fn add_message<D: Disk>(store: &mut Store<D>, name: &Name, added: Added) -> 
         size: added.size,
         map_uid: added.map_uid,
         guid: added.guid,
+        words: Seq::empty(store.alloc()),
     };
     match store.append_box(number, &entry) {
         Ok(()) => Ok(uid),

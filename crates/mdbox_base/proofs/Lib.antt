@@ -1,4 +1,5 @@
 pub mod DecimalLemmas
 pub mod DigitLemmas
+pub mod KeywordLemmas
 pub mod LowerHexLemmas
 pub mod StreamLemmas

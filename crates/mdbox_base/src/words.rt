@@ -67,7 +67,8 @@ impl Words {
         ensures ok { IfOk result (λ words. words ≡ self.now) }
         ensures memory { IsErr result → self.now ≢ [] }
     {
-        Ok(Words::of(self.texts(alloc)?))
+        let texts = copied_texts(alloc, self.as_slice())?;
+        Ok(Words::of(texts))
     }
 }
 
@@ -120,7 +121,5 @@ fn is_atom_octet(octet: u8) -> bool
 fn is_rising(texts: &[Octets]) -> bool
     ensures { IsTrue result ↔ AllPairs (λ a b. slice_cmp nat_cmp a b ≡ Less) texts.now }
 {
-    texts
-        .windows(2)
-        .all(|pair| pair[0].as_slice() < pair[1].as_slice())
+    texts.is_sorted_by(|a, b| a.as_slice() < b.as_slice())
 }

@@ -10,3 +10,4 @@ pub mod MapSoundLemmas
 pub mod RowLemmas
 pub mod SameMeaningLemmas
 pub mod SealedLemmas
+pub mod WordLemmas

@@ -14,6 +14,17 @@ example_guid = example_store ++ (0 ∷ 0 ∷ 0 ∷ 1 ∷ 0 ∷ 0 ∷ 0 ∷ 0x10 
 abbrev pub example_added : BoxEntry
 example_added = box.A (record { 0 = 1 }) 0 0x65000000 0 (record { 0 = 1 }) (record { 0 = example_guid }) []
 
+-- keywords in rising order, and the entry that sets them
+abbrev pub example_words : List (List ℕ)
+example_words = codes "$Junk" ∷ codes "project" ∷ []
+
+abbrev pub example_worded : BoxEntry
+example_worded = box.K (record { 0 = 1 }) example_words
+
+-- the same in falling order
+abbrev pub example_falling : BoxEntry
+example_falling = box.K (record { 0 = 1 }) (codes "project" ∷ codes "$Junk" ∷ [])
+
 -- the entries of the map log: mailbox 1 of generation 1 is INBOX, and a region of 0x59 octets of file 1
 abbrev pub example_made : MapEntry
 example_made = map.B (record { 0 = 1 }) 1 (codes "INBOX")

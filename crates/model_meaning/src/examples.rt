@@ -1,13 +1,13 @@
 // Examples of the definitions, with what the formats say of them.
 ghost use Rattle.std.specs.Prelude.{◌≡◌, ◌∷◌, [], ◌++◌, codes};
 ghost use Rattle.model_logs.specs.Entries.{box_text, map_text};
-ghost use Rattle.model_meaning.specs.BoxMeaning.{box_meaning};
+ghost use Rattle.model_meaning.specs.BoxMeaning.{box_meaning, BoxFits};
 ghost use Rattle.mdbox_base.specs.declared.entries.MapEntry.TheVariants as map;
 ghost use Rattle.model_meaning.specs.MapMeaning.{map_meaning};
 ghost use Rattle.model_meaning.specs.MapFits.{MapFits};
 ghost use Rattle.model_meaning.specs.FitExamples.{example_meaning, first, other_stored, other_guid, two_stored, purge, first_place, second_place, example_counted};
 ghost use Rattle.model_logs.specs.LogExamples.{example_store, box_entry, map_made, map_stored};
-ghost use Rattle.model_meaning.specs.MeaningExamples.{example_guid, example_added, example_made, example_stored, example_map};
+ghost use Rattle.model_meaning.specs.MeaningExamples.{example_guid, example_added, example_words, example_worded, example_falling, example_made, example_stored, example_map};
 
 /// The entries of the two logs of a store with one message have these octets.
 pub fn example_texts()
@@ -16,10 +16,14 @@ pub fn example_texts()
     ensures stored { map_text example_stored ≡ map_stored }
 {}
 
-/// The mailbox log has one row, the map log one record with count 1 and the mailbox INBOX.
+/// The mailbox log has one row, whose keywords a later entry sets; the map log one record with count 1 and the mailbox INBOX.
 pub fn example_meanings()
     ensures mailbox { box_meaning (example_added ∷ []) ≡ record {
       rows = record { uid = 1; flags = 0; time = 1694498816; size = 0; map_uid = 1; guid = example_guid; words = [] } ∷ [];
+      next = 2;
+    } }
+    ensures keywords { box_meaning (example_added ∷ example_worded ∷ []) ≡ record {
+      rows = record { uid = 1; flags = 0; time = 1694498816; size = 0; map_uid = 1; guid = example_guid; words = example_words } ∷ [];
       next = 2;
     } }
     ensures map { map_meaning example_store example_map ≡ record {
@@ -29,6 +33,13 @@ pub fn example_meanings()
       sealed = [];
       highest = record { file = 1; map = 1; instance = 0; mailbox = 1 };
     } }
+{}
+
+/// Behind that mailbox log keywords can be set that rise, and none that fall; without the message none.
+pub fn example_words_fit()
+    ensures rising { BoxFits (box_meaning (example_added ∷ [])) example_worded }
+    ensures falling { BoxFits (box_meaning (example_added ∷ [])) example_falling → ⊥ }
+    ensures no_message { BoxFits (box_meaning []) example_worded → ⊥ }
 {}
 
 /// Behind that map log the record's count can be raised, and lowered once; the message can't be stored again; empty lists

@@ -79,7 +79,7 @@ all_numbers : (entries : List MapEntry) → AllByRecursion MapInRange entries �
 all_numbers entries r = rows_all box_rules MapInRange HasNumbers made_numbers changed_numbers entries r
 
 box_head_fits : (store : List ℕ) (box : MapBox) → HeadFits (head_of store kind.Root 0 0) → HasNumbers box → HeadFits (head_of store kind.Box box.number box.generation)
-box_head_fits store box f h = record { store = f.store; octets = f.octets; number = h.number; generation = h.generation }
+box_head_fits store box f h = record { version = inr refl; store = f.store; octets = f.octets; number = h.number; generation = h.generation }
 
 -- ---- the record that added a row
 
@@ -92,8 +92,9 @@ record WasAdded (entries : List BoxEntry) (row : LogRow) : Type 0 where
   size : ℕ
   map_uid : MapUid
   guid : Guid
+  words : List (List ℕ)
   behind : List BoxEntry
-  split : entries ≡ before ++ box.A uid flags time size map_uid guid ∷ behind
+  split : entries ≡ before ++ box.A uid flags time size map_uid guid words ∷ behind
   same : row.uid ≡ uid.0
 
 later_added : (e : BoxEntry) (es : List BoxEntry) (row : LogRow) → WasAdded es row → WasAdded (e ∷ es) row
@@ -105,6 +106,7 @@ later_added e es row w = record {
   size = w.size;
   map_uid = w.map_uid;
   guid = w.guid;
+  words = w.words;
   behind = w.behind;
   split = ap (λ (o : List BoxEntry). e ∷ o) w.split;
   same = w.same;
@@ -119,9 +121,9 @@ anything [] = tt
 anything (e ∷ es) = (tt, anything es)
 
 own_added : (e : BoxEntry) (es : List BoxEntry) (row : LogRow) → Contains (row_made e) row → All (WasAdded (e ∷ es)) (row_behind row_rules es row)
-own_added (box.A u f t s m g) es row c =
-    let same : row.uid ≡ u.0 = All-contains (λ (r : LogRow). r.uid ≡ u.0) (row_made (box.A u f t s m g)) row (All-cons (λ (r : LogRow). r.uid ≡ u.0) (record { uid = u.0; flags = f; time = t; size = s; map_uid = m.0; guid = g.0 }) [] refl (All-nil (λ (r : LogRow). r.uid ≡ u.0))) c in
-    All-weaker (λ (r : LogRow). r.uid ≡ u.0) (WasAdded (box.A u f t s m g ∷ es)) (λ r h. record {
+own_added (box.A u f t s m g w) es row c =
+    let same : row.uid ≡ u.0 = All-contains (λ (r : LogRow). r.uid ≡ u.0) (row_made (box.A u f t s m g w)) row (All-cons (λ (r : LogRow). r.uid ≡ u.0) (record { uid = u.0; flags = f; time = t; size = s; map_uid = m.0; guid = g.0; words = w }) [] refl (All-nil (λ (r : LogRow). r.uid ≡ u.0))) c in
+    All-weaker (λ (r : LogRow). r.uid ≡ u.0) (WasAdded (box.A u f t s m g w ∷ es)) (λ r h. record {
       before = [];
       uid = u;
       flags = f;
@@ -129,12 +131,14 @@ own_added (box.A u f t s m g) es row c =
       size = s;
       map_uid = m;
       guid = g;
+      words = w;
       behind = es;
       split = refl;
       same = h;
     }) (row_behind row_rules es row) (behind_all row_rules Anything (λ (r : LogRow). r.uid ≡ u.0) (λ e r q h. changed_uid e r ∙ h) es row (anything es) same)
 own_added (box.N n) es row c = absurd (let k = c.1 in omega (arith, k))
 own_added (box.F u f) es row c = absurd (let k = c.1 in omega (arith, k))
+own_added (box.K u w) es row c = absurd (let k = c.1 in omega (arith, k))
 own_added (box.R u) es row c = absurd (let k = c.1 in omega (arith, k))
 
 -- each row was added
@@ -157,6 +161,7 @@ lacks_record m entries not_all k = all_or_one (HasItsRecord m) (rows_after entri
       size = w.size;
       map_uid = w.map_uid;
       guid = w.guid;
+      words = w.words;
       behind = w.behind;
       split = w.split;
       row = row;

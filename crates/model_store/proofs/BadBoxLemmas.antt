@@ -129,7 +129,7 @@ one_bad_map files n m p q a b =
 -- ---- mailbox logs
 
 box_log_same : (files : Files) (store : List ℕ) (box : MapBox) (es fs : List BoxEntry) → HasBox files store box es → HasBox files store box fs → es ≡ fs
-box_log_same files store box es fs a b = (log_same box_text BoxInRange box_one files _ _ _ es fs a.in_range b.in_range a.log b.log).1
+box_log_same files store box es fs a b = (log_same box_text BoxInRange (box_one 2) files _ _ _ es fs a.in_range b.in_range a.log b.log).1
 
 -- a mailbox has one log
 pub passed_same : (files : Files) (m : MapMeaning) (boxes : List MapBox) (xs ys : List (List BoxEntry)) → PassBoxes files m boxes xs → PassBoxes files m boxes ys → xs ≡ ys

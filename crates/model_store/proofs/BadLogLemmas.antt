@@ -56,7 +56,7 @@ map_grammar store = record {
 
 pub box_grammar : IsGrammar box_text BoxInRange AreBoxEntries
 box_grammar = record {
-  one = box_one;
+  one = box_one 2;
   range = λ entries good. good.0;
   front = λ before behind entry good. (front_in_range BoxInRange before behind entry good.0, (let r = box_fit_of [] before behind entry good.1 in box_fit_more [] before entry r.0 r.1));
 }

@@ -77,7 +77,7 @@ lines_say = record {
 box_is_log : IsLog instance_box_log example_box_head (added_entry ∷ [])
 unfolding head_octets
 box_is_log = record {
-  head_fits = record { store = refl; octets = store_octets; number = lit< tt; generation = lit< tt };
+  head_fits = record { version = inr refl; store = refl; octets = store_octets; number = lit< tt; generation = lit< tt };
   entries_fit = All-cons EntryFits added_entry [] (record { some = lit≤ tt; short = lit< tt }) (All-nil EntryFits);
   gate = 0;
   behind = [];
@@ -88,7 +88,7 @@ box_is_log = record {
 map_is_log : IsLog instance_map_log example_map_head (map_made ∷ stored_entry ∷ [])
 unfolding head_octets
 map_is_log = record {
-  head_fits = record { store = refl; octets = store_octets; number = lit< tt; generation = lit< tt };
+  head_fits = record { version = refl; store = refl; octets = store_octets; number = lit< tt; generation = lit< tt };
   entries_fit = All-cons EntryFits map_made (stored_entry ∷ []) (record { some = lit≤ tt; short = lit< tt }) (All-cons EntryFits stored_entry [] (record { some = lit≤ tt; short = lit< tt }) (All-nil EntryFits));
   gate = 0;
   behind = [];
@@ -138,8 +138,8 @@ has_box : HasBox instance_image example_store (record { number = 1; generation =
 unfolding instance_image
 has_box = record {
   log = record { octets = instance_box_log; there = refl; whole = box_is_log };
-  in_range = ((lit< tt, lit< tt, lit< tt, lit< tt, lit< tt, refl), tt);
-  fit = ((lit≤ tt, lit≤ tt, lit≤ tt, lit≤ tt, lit< tt), tt);
+  in_range = ((lit< tt, lit< tt, lit< tt, lit< tt, lit< tt, refl, (lit< tt, tt)), tt);
+  fit = ((lit≤ tt, lit≤ tt, lit≤ tt, lit≤ tt, lit< tt, no_words), tt);
 }
 
 -- ---- the message
@@ -203,7 +203,7 @@ stands = record {
       number = refl;
       name = refl;
       next = refl;
-      messages = (record { uid = refl; flags = refl; time = refl; guid = refl; size = refl; entry = instance_record; found = refl; same = refl; octets = kept }, tt);
+      messages = (record { uid = refl; flags = refl; time = refl; guid = refl; size = refl; words = refl; entry = instance_record; found = refl; same = refl; octets = kept }, tt);
     },
     tt,
   );

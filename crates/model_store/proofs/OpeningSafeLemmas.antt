@@ -54,7 +54,7 @@ logs_there image m (box ∷ boxes) (x ∷ xs) h =
 -- other logs that pass are these
 by_log : (image : Files) (m : MapMeaning) (box : MapBox) (entries : List BoxEntry) (x : Mailbox) → HasBox image m.store box entries → IsMailbox image m box x → IsBy image m box entries x
 by_log image m box entries x log h =
-    let e : h.entries ≡ entries = (log_same box_text BoxInRange box_one image _ _ _ h.entries entries h.log.in_range log.in_range h.log.log log.log).1 in
+    let e : h.entries ≡ entries = (log_same box_text BoxInRange (box_one 2) image _ _ _ h.entries entries h.log.in_range log.in_range h.log.log log.log).1 in
     record {
       log = log;
       number = h.number;
@@ -90,13 +90,13 @@ boxes_pass image m (box ∷ boxes) (es ∷ logs) [] h = absurd h
 boxes_pass image m (box ∷ boxes) (es ∷ logs) (x ∷ xs) h =
     (record { log = h.0.log; records = have_records image m (rows_after es) x.messages h.0.messages }, boxes_pass image m boxes logs xs h.1)
 
-made_row : ℕ → ℕ → ℕ → ℕ → List ℕ → ListRow
-made_row uid flags size time guid = record { uid = record { 0 = uid }; flags = flags; size = size; time = time; guid = record { 0 = guid } }
+made_row : ℕ → ℕ → ℕ → ℕ → List ℕ → List (List ℕ) → ListRow
+made_row uid flags size time guid words = record { uid = record { 0 = uid }; flags = flags; size = size; time = time; guid = record { 0 = guid }; words = words }
 
 row_shown : (image : Files) (m : MapMeaning) (row : LogRow) (x : ListedMessage) → IsListed image m row x → listed_row row ≡ listing_row x
 unfolding made_row
 row_shown image m row x l =
-    let same : made_row row.uid row.flags row.size row.time row.guid ≡ made_row x.uid x.flags (length x.octets) x.time x.guid = cc (l.uid, l.flags, l.time, l.guid, l.size) in
+    let same : made_row row.uid row.flags row.size row.time row.guid row.words ≡ made_row x.uid x.flags (length x.octets) x.time x.guid x.words = cc (l.uid, l.flags, l.time, l.guid, l.size, l.words) in
     same
 
 rows_shown : (image : Files) (m : MapMeaning) (rows : List LogRow) (xs : List ListedMessage) → AreListed image m rows xs → map listed_row rows ≡ map listing_row xs

@@ -147,4 +147,4 @@ map_read files store generation octets r bad k = either (λ (h : IsNumber genera
 ])
   where
     fits : IsNumber generation → HeadFits (head_of store kind.Map 0 generation)
-    fits n = record { store = r.log.whole.head_fits.store; octets = r.log.whole.head_fits.octets; number = lit< tt; generation = (let h = n.high in omega (arith, h)) }
+    fits n = record { version = refl; store = r.log.whole.head_fits.store; octets = r.log.whole.head_fits.octets; number = lit< tt; generation = (let h = n.high in omega (arith, h)) }

@@ -95,6 +95,7 @@ listed_along g m a b row x e h = record {
   time = h.time;
   guid = h.guid;
   size = h.size;
+  words = h.words;
   entry = h.entry;
   found = h.found;
   same = h.same;

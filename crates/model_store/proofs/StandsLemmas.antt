@@ -77,18 +77,18 @@ kept_same image row x y a b =
     let i = instances_same image row.instances a.instances b.instances a.found b.found in
     whole_along x y a.stored.message.body b.stored.message.body a.stored.meta.refs b.stored.meta.refs a.instances b.instances (ap (λ (o : Message). o.body) m) (ap (λ o. o.refs) meta) i a.whole b.whole
 
-made_message : ℕ → ℕ → ℕ → List ℕ → List ℕ → ListedMessage
-made_message uid flags time guid octets = record { uid = uid; flags = flags; time = time; guid = guid; octets = octets }
+made_message : ℕ → ℕ → ℕ → List ℕ → List ℕ → List (List ℕ) → ListedMessage
+made_message uid flags time guid octets words = record { uid = uid; flags = flags; time = time; guid = guid; octets = octets; words = words }
 
-message_equal : (a b : ListedMessage) → a.uid ≡ b.uid → a.flags ≡ b.flags → a.time ≡ b.time → a.guid ≡ b.guid → a.octets ≡ b.octets → a ≡ b
+message_equal : (a b : ListedMessage) → a.uid ≡ b.uid → a.flags ≡ b.flags → a.time ≡ b.time → a.guid ≡ b.guid → a.octets ≡ b.octets → a.words ≡ b.words → a ≡ b
 unfolding made_message
-message_equal a b e1 e2 e3 e4 e5 = let h : made_message a.uid a.flags a.time a.guid a.octets ≡ made_message b.uid b.flags b.time b.guid b.octets = cc in h
+message_equal a b e1 e2 e3 e4 e5 e6 = let h : made_message a.uid a.flags a.time a.guid a.octets a.words ≡ made_message b.uid b.flags b.time b.guid b.octets b.words = cc in h
 
 listed_same : (image : Files) (m : MapMeaning) (row : LogRow) (x y : ListedMessage) → IsListed image m row x → IsListed image m row y → x ≡ y
 listed_same image m row x y a b =
     let e : a.entry ≡ b.entry = some_same _ a.entry b.entry a.found b.found in
     let o : x.octets ≡ y.octets = kept_same image b.entry x.octets y.octets (subst (λ (r : MapRecord). StoresMessage image r x.octets) e a.octets) b.octets in
-    message_equal x y (a.uid ∙ sym b.uid) (a.flags ∙ sym b.flags) (a.time ∙ sym b.time) (a.guid ∙ sym b.guid) o
+    message_equal x y (a.uid ∙ sym b.uid) (a.flags ∙ sym b.flags) (a.time ∙ sym b.time) (a.guid ∙ sym b.guid) o (a.words ∙ sym b.words)
 
 rows_same : (image : Files) (m : MapMeaning) (rows : List LogRow) (xs ys : List ListedMessage) → AreListed image m rows xs → AreListed image m rows ys → xs ≡ ys
 rows_same image m [] [] [] a b = refl
@@ -115,7 +115,7 @@ made_mailbox number name next messages = record { number = number; name = name; 
 mailbox_same : (image : Files) (m : MapMeaning) (box : MapBox) (x y : Mailbox) → IsMailbox image m box x → IsMailbox image m box y → x ≡ y
 unfolding made_mailbox
 mailbox_same image m box x y a b =
-    let es : a.entries ≡ b.entries = (log_same box_text BoxInRange box_one image _ _ _ a.entries b.entries a.log.in_range b.log.in_range a.log.log b.log.log).1 in
+    let es : a.entries ≡ b.entries = (log_same box_text BoxInRange (box_one 2) image _ _ _ a.entries b.entries a.log.in_range b.log.in_range a.log.log b.log.log).1 in
     let messages : x.messages ≡ y.messages = rows_same image m (rows_after b.entries) x.messages y.messages (subst (λ (o : List BoxEntry). AreListed image m (rows_after o) x.messages) es a.messages) b.messages in
     let next : x.next_uid ≡ y.next_uid = a.next ∙ ap next_after es ∙ sym b.next in
     let name : x.name ≡ y.name = a.name ∙ sym b.name in

@@ -107,8 +107,8 @@ has_box : HasBox example_image example_store (record { number = 1; generation = 
 unfolding example_image
 has_box = record {
   log = record { octets = box_log; there = refl; whole = box_is_log };
-  in_range = ((lit< tt, lit< tt, lit< tt, lit< tt, lit< tt, refl), tt);
-  fit = ((lit≤ tt, lit≤ tt, lit≤ tt, lit≤ tt, lit< tt), tt);
+  in_range = ((lit< tt, lit< tt, lit< tt, lit< tt, lit< tt, refl, (lit< tt, tt)), tt);
+  fit = ((lit≤ tt, lit≤ tt, lit≤ tt, lit≤ tt, lit< tt, no_words), tt);
 }
 
 -- ---- the message
@@ -205,7 +205,7 @@ stands = record {
       number = refl;
       name = refl;
       next = refl;
-      messages = (record { uid = refl; flags = refl; time = refl; guid = refl; size = refl; entry = example_record; found = refl; same = refl; octets = kept }, tt);
+      messages = (record { uid = refl; flags = refl; time = refl; guid = refl; size = refl; words = refl; entry = example_record; found = refl; same = refl; octets = kept }, tt);
     },
     tt,
   );

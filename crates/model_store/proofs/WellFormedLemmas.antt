@@ -4,6 +4,7 @@ use Rattle.std.proofs.Common.{sym, ◌∙◌, ap, arith, subst}
 use Rattle.std.proofs.lemmas.List.Elements.{All-nil, All-cons, All-head, All-tail}
 use Rattle.std.proofs.lemmas.List.Kept.{AllPairs-cons}
 use Rattle.disk_model.specs.Disk.{Files}
+use Rattle.mdbox_base.specs.Keywords.{AreWords}
 use Rattle.mdbox_base.specs.Words.{IsName}
 use Rattle.model_lists.specs.Lists.{ListedMessage, Mailbox, Lists, IsMessageInRange, IsMailboxInOrder, AreWellFormed}
 use Rattle.model_meaning.specs.BoxMeaning.{LogRow, box_meaning, rows_after, next_after}
@@ -39,6 +40,7 @@ message_fits image m next row x le r l =
       time = omega (arith, time, h4);
       guid = ap length l.guid ∙ r.guid;
       size = omega (arith, size, h5);
+      words = subst AreWords (sym l.words) r.words;
     }
 
 messages_fit : (image : Files) (m : MapMeaning) (next : ℕ) (rows : List LogRow) (xs : List ListedMessage) → next ≤ 4294967295 → All (IsSoundRow next) rows → AreListed image m rows xs → All IsMessageInRange xs

@@ -21,13 +21,8 @@ use Rattle.request_text.specs.BatchText.{front_text, numbered_text, place_text, 
 use Rattle.request_text.specs.ReplyText.{gone_text, guid_text, numbers_text, ok_line, refusal_text, reply_text, row_text}
 use Rattle.request_text.specs.declared.places.Places.{Places}
 use Rattle.request_text.specs.declared.places.Places.TheVariants as places
-use Rattle.printed_replies.specs.PrintedReplies.{AreRepliesTo, AreWords, IsReplyTo, ReplyHasWords, RowHasWords}
-use Rattle.printed_replies.proofs.TextReadLemmas.{guid_read, mark_read, number_read, numbers_read, refusal_read, rows_read, uid_same}
-
--- of each, one by one
-each_of : {X : Type 0} → (P : X → Type 0) (xs : List X) → All P xs → AllByRecursion P xs
-each_of P [] h = tt
-each_of P (x ∷ xs) h = (h 0 x (omega arith), each_of P xs (λ k d lt. h (suc k) d (omega (arith, lt))))
+use Rattle.printed_replies.specs.PrintedReplies.{AreRepliesTo, FitInWords, IsReplyTo, ReplyHasWords, RowHasWords}
+use Rattle.printed_replies.proofs.TextReadLemmas.{each_of, guid_read, mark_read, number_read, numbers_read, refusal_read, rows_read, uid_same}
 
 -- ---- a line
 
@@ -38,7 +33,7 @@ line_same : (s t x y : List ℕ) → ok_line s ++ x ≡ ok_line t ++ y → s ++ 
 line_same s t x y e = ap (drop 2) (sym (line_text s x) ∙ e ∙ line_text t y)
 
 -- one line of numbers
-numbers_line : (ns ms x y : List ℕ) → length ns ≡ length ms → AreWords ns → AreWords ms → ok_line (numbers_text ns) ++ x ≡ ok_line (numbers_text ms) ++ y → (ns ≡ ms) × (x ≡ y)
+numbers_line : (ns ms x y : List ℕ) → length ns ≡ length ms → FitInWords ns → FitInWords ms → ok_line (numbers_text ns) ++ x ≡ ok_line (numbers_text ms) ++ y → (ns ≡ ms) × (x ≡ y)
 numbers_line ns ms x y l p q e = numbers_read 10 ns ms x y refl l p q (line_same (numbers_text ns) (numbers_text ms) x y e)
 
 -- texts that begin otherwise

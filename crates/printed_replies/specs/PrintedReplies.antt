@@ -1,5 +1,6 @@
 -- What the printed replies of a script tell.
 use Rattle.std.specs.Prelude.{◌<◌, ◌^◌, ℕ, List, [], ◌∷◌, All, length}
+use Rattle.mdbox_base.specs.Keywords.{AreWords}
 use Rattle.mdbox_base.specs.Words.{IsOctets}
 use Rattle.mdbox_base.specs.declared.replies.ListRow.{ListRow}
 use Rattle.mdbox_base.specs.declared.replies.Refusal.{Refusal}
@@ -34,31 +35,32 @@ AreRepliesTo (asked ∷ script) (given ∷ rest) = IsReplyTo asked.1 given × Ar
 AreRepliesTo script given = ⊥
 
 -- numbers below 2 ^ 64
-abbrev pub AreWords : List ℕ → Type 0
-AreWords [] = Unit {0}
-AreWords (n ∷ rest) = (n < 2 ^ 64) × AreWords rest
+abbrev pub FitInWords : List ℕ → Type 0
+FitInWords [] = Unit {0}
+FitInWords (n ∷ rest) = (n < 2 ^ 64) × FitInWords rest
 
 abbrev pub RowHasWords : ListRow → Type 0
-RowHasWords row = AreWords (row.uid.0 ∷ row.flags ∷ row.size ∷ row.time ∷ []) × IsOctets row.guid.0
+RowHasWords row = FitInWords (row.uid.0 ∷ row.flags ∷ row.size ∷ row.time ∷ []) × IsOctets row.guid.0 × AreWords row.words
 
 abbrev pub RefusalHasWords : Refusal → Type 0
-RefusalHasWords (refusal.TooManyCopies n) = AreWords (n ∷ [])
-RefusalHasWords (refusal.MailboxFull n) = AreWords (n ∷ [])
-RefusalHasWords (refusal.TooManyMailboxes n) = AreWords (n ∷ [])
-RefusalHasWords (refusal.StoreFull n) = AreWords (n ∷ [])
-RefusalHasWords (refusal.Damaged file offset) = AreWords (file.0 ∷ offset ∷ [])
+RefusalHasWords (refusal.TooManyCopies n) = FitInWords (n ∷ [])
+RefusalHasWords (refusal.MailboxFull n) = FitInWords (n ∷ [])
+RefusalHasWords (refusal.TooManyMailboxes n) = FitInWords (n ∷ [])
+RefusalHasWords (refusal.StoreFull n) = FitInWords (n ∷ [])
+RefusalHasWords (refusal.Damaged file offset) = FitInWords (file.0 ∷ offset ∷ [])
 RefusalHasWords other = Unit {0}
 
--- The numbers and lengths of a reply are below 2 ^ 64, and a GUID has octets: so it is with every reply that a program holds.
+-- The numbers and lengths of a reply are below 2 ^ 64, a GUID has octets, and keywords are those of a message: so it is with every reply that
+-- a program holds.
 abbrev pub ReplyHasWords : Reply → Type 0
-ReplyHasWords (reply.Saved uid guid) = AreWords (uid.0 ∷ []) × IsOctets guid.0
-ReplyHasWords (reply.Listed rows) = AreWords (length rows ∷ []) × All RowHasWords rows
-ReplyHasWords (reply.Fetched octets) = AreWords (length octets ∷ [])
+ReplyHasWords (reply.Saved uid guid) = FitInWords (uid.0 ∷ []) × IsOctets guid.0
+ReplyHasWords (reply.Listed rows) = FitInWords (length rows ∷ []) × All RowHasWords rows
+ReplyHasWords (reply.Fetched octets) = FitInWords (length octets ∷ [])
 ReplyHasWords reply.Done = Unit {0}
-ReplyHasWords (reply.Copied uid) = AreWords (uid.0 ∷ [])
-ReplyHasWords (reply.Moved uid gone) = AreWords (uid.0 ∷ [])
-ReplyHasWords (reply.Counted records references counts instances) = AreWords (records ∷ references ∷ counts ∷ instances ∷ [])
-ReplyHasWords (reply.Purged dropped files instances) = AreWords (dropped ∷ files ∷ instances ∷ [])
-ReplyHasWords (reply.Resynced corrected damaged) = AreWords (corrected ∷ damaged ∷ [])
-ReplyHasWords (reply.AltMoved moved dropped) = AreWords (moved ∷ dropped ∷ [])
+ReplyHasWords (reply.Copied uid) = FitInWords (uid.0 ∷ [])
+ReplyHasWords (reply.Moved uid gone) = FitInWords (uid.0 ∷ [])
+ReplyHasWords (reply.Counted records references counts instances) = FitInWords (records ∷ references ∷ counts ∷ instances ∷ [])
+ReplyHasWords (reply.Purged dropped files instances) = FitInWords (dropped ∷ files ∷ instances ∷ [])
+ReplyHasWords (reply.Resynced corrected damaged) = FitInWords (corrected ∷ damaged ∷ [])
+ReplyHasWords (reply.AltMoved moved dropped) = FitInWords (moved ∷ dropped ∷ [])
 ReplyHasWords (reply.Refused refusal) = RefusalHasWords refusal

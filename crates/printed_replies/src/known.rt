@@ -15,10 +15,13 @@ fn known_uid(uid: Uid)
     ensures { uid.0 < 2 ^ 64 }
 {}
 
-fn known_row(row: ListRow)
-    ensures { RowHasWords row }
+fn known_row(row: &ListRow)
+    ensures { RowHasWords row.now }
 {
+    let _uid = row.uid;
+    let _numbers = [row.size as u64, row.time];
     known_octets(&row.guid.0);
+    let _words = row.words.as_slice();
 }
 
 fn known_refusal(refusal: Refusal)
@@ -37,11 +40,11 @@ fn known_rows(rows: &[ListRow])
     ensures { All RowHasWords rows.now }
 {
     for row in rows {
-        known_row(*row);
+        known_row(row);
     }
 }
 
-/// The numbers and lengths of a reply are below 2 ^ 64, and a GUID has octets.
+/// The numbers and lengths of a reply are below 2 ^ 64, a GUID has octets, and keywords are those of a message.
 pub fn known_words(reply: &Reply)
     ensures { ReplyHasWords reply.now }
 {

@@ -22,9 +22,13 @@ numbers_text (n ∷ rest) = 32 ∷ (decimal_text n ++ numbers_text rest)
 abbrev pub guid_text : Guid → List ℕ
 guid_text guid = 32 ∷ encode_lower guid.0
 
--- a row of a listing: UID, flags, size in octets, time in Unix seconds, and GUID
+-- keywords, each behind a space
+abbrev pub keywords_text : List (List ℕ) → List ℕ
+keywords_text words = flat_map (λ word. 32 ∷ word) words
+
+-- a row of a listing: UID, flags, size in octets, time in Unix seconds, GUID, and keywords
 abbrev pub row_text : ListRow → List ℕ
-row_text row = decimal_text row.uid.0 ++ (numbers_text (row.flags ∷ row.size ∷ row.time ∷ []) ++ (guid_text row.guid ++ 10 ∷ []))
+row_text row = decimal_text row.uid.0 ++ (numbers_text (row.flags ∷ row.size ∷ row.time ∷ []) ++ (guid_text row.guid ++ (keywords_text row.words ++ 10 ∷ [])))
 
 -- a line that begins with `OK`
 abbrev pub ok_line : List ℕ → List ℕ

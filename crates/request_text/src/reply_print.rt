@@ -4,7 +4,7 @@ ghost use Rattle.mdbox_base.specs.Streams.{Appended};
 ghost use Rattle.mdbox_base.specs.declared.replies.ListRow.{ListRow};
 ghost use Rattle.mdbox_base.specs.declared.replies.Refusal.TheVariants as refusal;
 ghost use Rattle.mdbox_base.specs.declared.replies.Reply.TheVariants as reply;
-ghost use Rattle.request_text.specs.ReplyText.{numbers_text, guid_text, row_text, ok_line, listing_text, refusal_text, reply_text, fetched_text};
+ghost use Rattle.request_text.specs.ReplyText.{numbers_text, guid_text, keywords_text, row_text, ok_line, listing_text, refusal_text, reply_text, fetched_text};
 ghost use Rattle.piece_writer.specs.Pieces.{Gathers, WritesPrefix, IsPrintError};
 
 use disk_model::FileName;
@@ -40,13 +40,25 @@ fn push_guid(text: &mut Octets, guid: Guid) -> Result<(), NoMemory>
     }
 }
 
+/// Adds keywords, each behind a space.
+fn push_keywords(text: &mut Octets, words: &[Octets]) -> Result<(), NoMemory>
+    ensures { OnOk result (text.new ≡ text.old ++ keywords_text words.now) }
+{
+    for word in words {
+        text.push_all(b" ")?;
+        text.push_all(word.as_slice())?;
+    }
+    Ok(())
+}
+
 /// Adds a row of a listing.
-fn push_row(text: &mut Octets, row: ListRow) -> Result<(), NoMemory>
-    ensures { OnOk result (text.new ≡ text.old ++ row_text row) }
+fn push_row(text: &mut Octets, row: &ListRow) -> Result<(), NoMemory>
+    ensures { OnOk result (text.new ≡ text.old ++ row_text row.now) }
 {
     push_decimal(text, row.uid.0 as u64)?;
     push_numbers(text, &[row.flags.bits() as u64, row.size as u64, row.time])?;
     push_guid(text, row.guid)?;
+    push_keywords(text, row.words.as_slice())?;
     text.push_all(b"\n")
 }
 
@@ -159,10 +171,10 @@ pub fn put_line<O: Sink>(
 fn put_row<O: Sink>(
     output: &mut O,
     writer: &mut PieceWriter,
-    row: ListRow,
+    row: &ListRow,
 ) -> Result<(), PrintError>
-    ensures ok { OnOk result (Gathers (O.held output.old) writer.old.piece (row_text row) (O.held output.new) writer.new.piece) }
-    ensures err { OnErr result (WritesPrefix (O.held output.old) writer.old.piece (row_text row) (O.held output.new)) }
+    ensures ok { OnOk result (Gathers (O.held output.old) writer.old.piece (row_text row.now) (O.held output.new) writer.new.piece) }
+    ensures err { OnErr result (WritesPrefix (O.held output.old) writer.old.piece (row_text row.now) (O.held output.new)) }
     ensures quiet { OnOk result (O.faults output.new ≡ O.faults output.old) }
     ensures cause { IfErr result (IsPrintError (O.faults output.old) (O.faults output.new)) }
     ensures counted { O.faults output.old ≤ O.faults output.new }
@@ -187,7 +199,7 @@ fn put_listing<O: Sink>(
     let line = numbers_line(alloc, &[rows.len() as u64])?;
     put_line(output, writer, &line)?;
     for row in rows {
-        put_row(output, writer, *row)?;
+        put_row(output, writer, row)?;
     }
     Ok(())
 }

@@ -24,13 +24,13 @@ use Rattle.script_run.proofs.ShownLemmas.{shows_same}
 -- ---- a mailbox
 
 abbrev shown_message : LogRow → ListedMessage
-shown_message row = record { uid = row.uid; flags = row.flags; time = row.time; guid = row.guid; octets = replicate row.size 0 }
+shown_message row = record { uid = row.uid; flags = row.flags; time = row.time; guid = row.guid; octets = replicate row.size 0; words = row.words }
 
 abbrev shown_mailbox : MapBox → BoxMeaning → Mailbox
 shown_mailbox box m = record { number = box.number; name = box.name; next_uid = m.next; messages = map shown_message m.rows }
 
 row_shown : (row : LogRow) → listed_row row ≡ listing_row (shown_message row)
-row_shown row = ap (λ (n : ℕ). let shown : ListRow = record { uid = record { 0 = row.uid }; flags = row.flags; size = n; time = row.time; guid = record { 0 = row.guid } } in shown) (sym (length-replicate row.size 0))
+row_shown row = ap (λ (n : ℕ). let shown : ListRow = record { uid = record { 0 = row.uid }; flags = row.flags; size = n; time = row.time; guid = record { 0 = row.guid }; words = row.words } in shown) (sym (length-replicate row.size 0))
 
 rows_shown : (rows : List LogRow) → map listed_row rows ≡ map listing_row (map shown_message rows)
 rows_shown [] = refl
@@ -42,7 +42,7 @@ message_fits next row le r =
     let size = r.size in
     let zeros : List ℕ = replicate row.size 0 in
     let is : length zeros ≡ row.size = length-replicate row.size 0 in
-    record { uid_some = r.uid_some; uid_fits = omega (arith, below, le); flags = r.flags; time = r.time; guid = r.guid; size = omega (arith, size, is) }
+    record { uid_some = r.uid_some; uid_fits = omega (arith, below, le); flags = r.flags; time = r.time; guid = r.guid; size = omega (arith, size, is); words = r.words }
 
 mailbox_in_order : (high : ℕ) (box : MapBox) (m : BoxMeaning) → IsSoundMapBox high box → IsSoundBox m → IsMailboxInOrder (shown_mailbox box m)
 mailbox_in_order high box m b s = record {

@@ -35,7 +35,7 @@ use Rattle.script_run.specs.Opening.{LogsShowLists, RunBegins, RunHasCome}
 
 -- the lists with a message that is saved: last in its mailbox, whose next UID it gets, and without flags
 abbrev pub saved_lists : List ℕ → ℕ → List ℕ → Guid → Lists → Lists
-saved_lists name time octets guid lists = add_message name (record { uid = 0; flags = 0; time = time; guid = guid.0; octets = octets }) lists
+saved_lists name time octets guid lists = add_message name (record { uid = 0; flags = 0; time = time; guid = guid.0; octets = octets; words = [] }) lists
 
 -- the lists with the copy of a moved message and without the message, and those that the move leaves, by whether the message had
 -- gone before it was removed

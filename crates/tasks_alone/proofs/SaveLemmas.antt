@@ -128,7 +128,7 @@ one_done a b e = cc e
 -- ---- the lists with the message
 
 -- whatever UID the message had
-same_message : (name : List ℕ) (time : ℕ) (octets : List ℕ) (guid : Guid) (uid : ℕ) (lists : Lists) → add_message name (record { uid = uid; flags = 0; time = time; guid = guid.0; octets = octets }) lists ≡ saved_lists name time octets guid lists
+same_message : (name : List ℕ) (time : ℕ) (octets : List ℕ) (guid : Guid) (uid : ℕ) (lists : Lists) → add_message name (record { uid = uid; flags = 0; time = time; guid = guid.0; octets = octets; words = [] }) lists ≡ saved_lists name time octets guid lists
 same_message name time octets guid uid lists = refl
 
 pub save_gives : {D : Type 0} → (name octets : List ℕ) (added : Added) (number : BoxNo) (uid : Uid) (s : StoreValue D) (lists : Lists) → HasRoomUnder name number uid s → AreWellFormed lists → ShowLists s.map.boxes (indexes_of s.boxes) lists
@@ -137,10 +137,10 @@ save_gives name octets added number uid s lists room well h =
     let t : ShownBox name lists room.mailbox = subst (ShowsBox name lists) room.named (shows_box name s.map.boxes (indexes_of s.boxes) lists h) in
     let number_is = numbered name number.0 s.map.boxes (indexes_of s.boxes) lists t.mailbox h room.number_is t.named in
     subst (λ (k : ℕ). lists_by k octets (entry_added uid added) lists ≡ saved_lists name added.time octets added.guid lists) number_is
-    (added_by lists name t.mailbox octets uid 0 added.time added.size added.map_uid added.guid well t.named (room.next ∙ sym t.next) ∙ same_message name added.time octets added.guid uid.0 lists)
+    (added_by lists name t.mailbox octets uid 0 added.time added.size added.map_uid added.guid [] well t.named (room.next ∙ sym t.next) ∙ same_message name added.time octets added.guid uid.0 lists)
 
 save_alike : (octets : List ℕ) (added : Added) (uid : Uid) → added.size ≡ length octets → MakesAlike octets (entry_added uid added)
-save_alike octets added uid e = ap (λ (n : ℕ). let r : ListRow = record { uid = record { 0 = uid.0 }; flags = 0; size = n; time = added.time; guid = record { 0 = added.guid.0 } } in r ∷ []) e
+save_alike octets added uid e = ap (λ (n : ℕ). let r : ListRow = record { uid = record { 0 = uid.0 }; flags = 0; size = n; time = added.time; guid = record { 0 = added.guid.0 }; words = [] } in r ∷ []) e
 
 -- what the log means with the message shows them
 save_shows : {D : Type 0} → (name octets : List ℕ) (added : Added) (number : BoxNo) (uid : Uid) (s : StoreValue D) (lists : Lists) → HasRoomUnder name number uid s → added.size ≡ length octets → AreWellFormed lists → ShowLists s.map.boxes (indexes_of s.boxes) lists

@@ -19,15 +19,15 @@ pub const RAISES_FIRST: &[u8] = b"U\0\0\0\x01";
 
 /// Of the log of a mailbox: message 1 is that of record 1.
 pub const ADDS_FIRST: &[u8] =
-    b"A\0\0\0\x01\0\0\0\0\0\x65\0\0\0\0\0\0\0\0\0\0\x01\0\x11\x22\x33\x44\x55\x66\x77\0\0\0\x01\0\0\0\x10";
+    b"A\0\0\0\x01\0\0\0\0\0\x65\0\0\0\0\0\0\0\0\0\0\x01\0\x11\x22\x33\x44\x55\x66\x77\0\0\0\x01\0\0\0\x10\0";
 
 /// Of the log of a mailbox: message 2, of 5 octets, is that of record 2.
 pub const ADDS_SECOND: &[u8] =
-    b"A\0\0\0\x02\0\0\0\0\0\x65\0\0\x01\0\0\0\x05\0\0\0\x02\0\x11\x22\x33\x44\x55\x66\x77\0\0\0\x01\0\0\0\x69";
+    b"A\0\0\0\x02\0\0\0\0\0\x65\0\0\x01\0\0\0\x05\0\0\0\x02\0\x11\x22\x33\x44\x55\x66\x77\0\0\0\x01\0\0\0\x69\0";
 
 /// Of the log of a mailbox: message 1 is flagged with bit 8.
 pub const FLAGS_FIRST: &[u8] = b"F\0\0\0\x01\x08";
 
 /// Of the log of a mailbox: message 3 is that of record 1, flagged with bit 8.
 pub const ADDS_COPY: &[u8] =
-    b"A\0\0\0\x03\x08\0\0\0\0\x65\0\0\0\0\0\0\0\0\0\0\x01\0\x11\x22\x33\x44\x55\x66\x77\0\0\0\x01\0\0\0\x10";
+    b"A\0\0\0\x03\x08\0\0\0\0\x65\0\0\0\0\0\0\0\0\0\0\x01\0\x11\x22\x33\x44\x55\x66\x77\0\0\0\x01\0\0\0\x10\0";

@@ -7,6 +7,7 @@ use std::alloc::Global;
 pub const ID: StoreId = StoreId([0x00, 0x11, 0x22, 0x33, 0x44, 0x55, 0x66, 0x77]);
 
 pub const ROOT_HEAD: LogHead = LogHead {
+    version: 1,
     store: ID,
     kind: LogKind::Root,
     number: 0,
@@ -15,6 +16,7 @@ pub const ROOT_HEAD: LogHead = LogHead {
 
 /// The head of the map log of generation 1.
 pub const MAP_HEAD: LogHead = LogHead {
+    version: 1,
     store: ID,
     kind: LogKind::Map,
     number: 0,
@@ -23,6 +25,7 @@ pub const MAP_HEAD: LogHead = LogHead {
 
 /// The head of the log of mailbox 1, of generation 1.
 pub const BOX_HEAD: LogHead = LogHead {
+    version: 2,
     store: ID,
     kind: LogKind::Box,
     number: 1,
@@ -31,7 +34,8 @@ pub const BOX_HEAD: LogHead = LogHead {
 
 /// A log with these entries: its head, and before each record an open gate, with a closed one at the end.
 pub fn log_octets(alloc: Global, head: LogHead, entries: &[&[u8]]) -> Result<Vec<u8>, NoMemory> {
-    let mut octets = b"MDBXLOG1".to_vec(alloc)?;
+    let mut octets = b"MDBXLOG".to_vec(alloc)?;
+    octets.push(head.version.wrapping_add(b'0'))?;
     octets.extend_from_slice(&head.store.0)?;
     octets.push(match head.kind {
         LogKind::Root => b'R',

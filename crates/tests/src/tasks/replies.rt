@@ -1,6 +1,7 @@
 // What is printed of replies.
 use mdbox_base::{
-    FileNo, Flags, Guid, ListRow, MemSink, Octets, Refusal, Reply, Seq, Uid, flags_of,
+    FileNo, Flags, Guid, ListRow, MemSink, Octets, Refusal, Reply, Seq, Uid, Words, are_words,
+    flags_of,
 };
 use piece_writer::PrintError;
 use request_text::print_reply;
@@ -26,13 +27,26 @@ fn printed(
 }
 
 /// A row of a listing.
-fn row(uid: u32, flags: Flags, size: u32) -> ListRow {
+fn row(uid: u32, flags: Flags, size: u32, words: Words) -> ListRow {
     ListRow {
         uid: Uid(uid),
         flags,
         size,
         time: 1_694_498_816,
         guid: GUID,
+        words,
+    }
+}
+
+/// Two keywords.
+fn two_words(alloc: Global) -> Result<Words, Fail> {
+    let first = Octets::of(Vec::from_slice(alloc, b"$Later")?);
+    let second = Octets::of(Vec::from_slice(alloc, b"work")?);
+    let texts = Seq::of(vec![in alloc; first, second]?);
+    if are_words(texts.as_slice()) {
+        Ok(Words::of(texts))
+    } else {
+        Err(Fail::from("no keywords"))
     }
 }
 
@@ -129,14 +143,16 @@ fn numbers_are_printed(rt: HostRuntime) -> Result<(), Fail> {
 
 const LISTED: &str = "OK 2
 1 8 5 1694498816 00112233445566770000000100000010
-3 0 70 1694498816 00112233445566770000000100000010
+3 0 70 1694498816 00112233445566770000000100000010 $Later work
 ";
 
-/// A listing of two messages.
+/// A listing of two messages, of which the second has two keywords.
 fn listing(alloc: Global) -> Result<Reply, Fail> {
     let seen = flags_of(8).ok_or("no flags")?;
     let none = flags_of(0).ok_or("no flags")?;
-    let rows = vec![in alloc; row(1, seen, 5), row(3, none, 70)]?;
+    let first = row(1, seen, 5, Words::none(alloc));
+    let second = row(3, none, 70, two_words(alloc)?);
+    let rows = vec![in alloc; first, second]?;
     Ok(Reply::Listed(Seq::of(rows)))
 }
 

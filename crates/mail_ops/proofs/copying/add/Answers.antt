@@ -29,7 +29,7 @@ returns-in-Ok-clause-added g c =
       at = at;
       source_is = same;
       holds = held_row c.args.store.now c.args.name.now c.args.uid.0 at.source c.args.source.0 c.args.held.0 row c.requires.keeps at.from same;
-      took = subst (λ (f : ℕ). BoxTook c.in_ok-row.field-0.target.0 (box_entry.A c.in_ok-row.field-0.next f row.time row.size (record { 0 = row.map_uid }) (record { 0 = row.guid })) c.args.store.now c.append_box.new.self (g.D.Disk.history c.args.store.now.disk) (g.D.Disk.history c.append_box.new.self.disk) (g.D.Disk.faults c.args.store.now.disk) (g.D.Disk.faults c.append_box.new.self.disk)) c.bits.ensures.same (record {
+      took = subst (λ (f : ℕ). BoxTook c.in_ok-row.field-0.target.0 (box_entry.A c.in_ok-row.field-0.next f row.time row.size (record { 0 = row.map_uid }) (record { 0 = row.guid }) row.words) c.args.store.now c.append_box.new.self (g.D.Disk.history c.args.store.now.disk) (g.D.Disk.history c.append_box.new.self.disk) (g.D.Disk.faults c.args.store.now.disk) (g.D.Disk.faults c.append_box.new.self.disk)) c.bits.ensures.same (record {
         appends = record {
           moments = o.any_moment;
           map = ap (λ v. v.map) o.same;
@@ -66,7 +66,7 @@ returns-in-Err-Stopped-clause-refused g c =
       at = at;
       source_is = same;
       holds = held_row c.args.store.now c.args.name.now c.args.uid.0 at.source c.args.source.0 c.args.held.0 row c.requires.keeps at.from same;
-      fell = subst (λ (f : ℕ). BoxFell c.in_ok-row.field-0.target.0 (box_entry.A c.in_ok-row.field-0.next f row.time row.size (record { 0 = row.map_uid }) (record { 0 = row.guid })) c.args.store.now c.append_box.new.self (g.D.Disk.history c.args.store.now.disk) (g.D.Disk.history c.append_box.new.self.disk) (g.D.Disk.faults c.args.store.now.disk) (g.D.Disk.faults c.append_box.new.self.disk)) c.bits.ensures.same (record {
+      fell = subst (λ (f : ℕ). BoxFell c.in_ok-row.field-0.target.0 (box_entry.A c.in_ok-row.field-0.next f row.time row.size (record { 0 = row.map_uid }) (record { 0 = row.guid }) row.words) c.args.store.now c.append_box.new.self (g.D.Disk.history c.args.store.now.disk) (g.D.Disk.history c.append_box.new.self.disk) (g.D.Disk.faults c.args.store.now.disk) (g.D.Disk.faults c.append_box.new.self.disk)) c.bits.ensures.same (record {
         appends = record {
           moments = o.any_moment;
           map = ap (λ v. v.map) o.same;

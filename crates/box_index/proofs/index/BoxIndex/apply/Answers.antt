@@ -26,3 +26,9 @@ invariant_of-self-in-A c = order-added _ c.in-A.uid c.in-A.flags c.in-A.time c.i
 
 pub returns-in_ok-reserve-in-A-clause-ok : goal.returns-in_ok-reserve-in-A-clause-ok
 returns-in_ok-reserve-in-A-clause-ok c = rw (c.in-A.is, ← c.self.view_is) (applied-added _ _ _ _ _ _ _ _ _ (rw (c.in-A.is, ← c.self.view_is) at c.requires) (pushed _ _ _ _ (rw c.reserve.ensures.same at (ap (λ p. p.rows) c.push.ensures)) (rw c.known_flags.ensures refl)))
+
+pub invariant_of-self-in-K : goal.invariant_of-self-in-K
+invariant_of-self-in-K c = order-changed _ c.in-K.uid _ c.self.inside.rows.rows c.change-in-K.new.self.rows c.self.invariant refl (ap (λ p. p.rows) c.change-in-K.ensures)
+
+pub returns-in-K-clause-ok : goal.returns-in-K-clause-ok
+returns-in-K-clause-ok c = rw (c.in-K.is, ← c.self.view_is) (applied-changed _ c.in-K.uid (change.Words c.in-K.words) c.self.inside.rows.rows c.change-in-K.new.self.rows c.self.invariant.some refl (ap (λ p. p.rows) c.change-in-K.ensures))

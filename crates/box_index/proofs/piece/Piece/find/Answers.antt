@@ -1,10 +1,11 @@
+use Rattle.std.specs.Option.{option_copied}
 use Rattle.std.proofs.Common.{sym, ap, ◌∙◌, refl}
 use Rattle.box_index.specs.declared.index.BoxRow.{BoxRow}
 use Rattle.box_index.proofs.RisingLemmas.{find-lacks, found-at}
 use Rattle.box_index.proofs.piece.Piece.find.Goals as goal
 
 pub returns-in_err-place : goal.returns-in_err-place
-returns-in_err-place c = c.from_residual.ensures ∙ sym (rw (← c.self.view_is) (find-lacks _ _ (rw c.deref.ensures.value at c.in_err-place.ensures.none refl)))
+returns-in_err-place c = ap option_copied c.from_residual.ensures ∙ sym (rw (← c.self.view_is) (find-lacks _ _ (rw c.deref.ensures.value at c.in_err-place.ensures.none refl)))
 
 pub returns : goal.returns
 returns c =

@@ -1,4 +1,5 @@
-use Rattle.std.proofs.Common.{sym, ◌∙◌, refl}
+use Rattle.std.specs.Option.{option_copied}
+use Rattle.std.proofs.Common.{sym, ap, ◌∙◌, refl}
 use Rattle.box_index.specs.Pieces.{rows_in}
 use Rattle.box_index.proofs.RisingLemmas.{find-after, find-before, find-lacks}
 use Rattle.box_index.proofs.PiecesLemmas.{rising-front, rising-back, rising-piece, lacks-before, lacks-last, found-in}
@@ -19,7 +20,7 @@ pub returns-in_err-place : goal.returns-in_err-place
 returns-in_err-place c =
     let lacks = lacks-last c.args.uid.0 (rows_in c.self.inside.earlier.items) c.self.inside.last.rows (rw (← c.self.view_is) at c.requires) (sym c.begins_by.ensures ∙ c.if-begins_by.false) in
     let none = rw c.deref.ensures.value at c.in_err-place.ensures.none refl in
-    c.from_residual.ensures ∙ sym (rw (← c.self.view_is) (find-after c.args.uid.0 (rows_in c.self.inside.earlier.items) c.self.inside.last.rows none ∙ find-lacks c.args.uid.0 _ lacks))
+    ap option_copied c.from_residual.ensures ∙ sym (rw (← c.self.view_is) (find-after c.args.uid.0 (rows_in c.self.inside.earlier.items) c.self.inside.last.rows none ∙ find-lacks c.args.uid.0 _ lacks))
 
 pub find-requires-2 : goal.find-requires-2
 find-requires-2 c =
