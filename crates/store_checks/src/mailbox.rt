@@ -62,6 +62,7 @@ fn read_box<D: Disk>(
 {
     let name = FileName::Box(at.number.0, at.generation);
     let head = LogHead {
+        version: 2,
         store: id,
         kind: LogKind::Box,
         number: at.number.0,

@@ -33,6 +33,7 @@ pub fn read_map<D: Disk>(
         return Err(CheckError::Damaged(name, 0));
     }
     let head = LogHead {
+        version: 1,
         store: id,
         kind: LogKind::Map,
         number: 0,

@@ -35,6 +35,7 @@ pub fn read_root<D: Disk>(alloc: Global, disk: &mut D) -> Result<Root, CheckErro
 {
     let id = root_id(alloc, disk)?;
     let head = LogHead {
+        version: 1,
         store: id,
         kind: LogKind::Root,
         number: 0,

@@ -256,6 +256,7 @@ fn make_log<D: Disk>(
     ensures unfailed { OnOk result (NoFault (D.faults disk.old) (D.faults disk.new)) }
 {
     let head = LogHead {
+        version: 2,
         store,
         kind: LogKind::Box,
         number: number.0,
