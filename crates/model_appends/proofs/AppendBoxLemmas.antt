@@ -121,7 +121,7 @@ box_log_as a b store box log e h = record { log = log_as a b _ _ _ e h.log; in_r
 mailbox_more : (a b : Files) (m : MapMeaning) (box : MapBox) (log : List BoxEntry) (octets : List ℕ) (e : BoxEntry) (x : Mailbox) → SameStored a b → HasBox a m.store box log → BoxInRange e → BoxFits (box_meaning log) e
     → AreListed a m (row_made e) (message_made octets e) → HasOneMore (box_text e) (a (file.Box box.number box.generation)) (b (file.Box box.number box.generation)) → IsMailbox a m box x → IsMailbox b m box (mailbox_by octets e x)
 mailbox_more a b m box log octets e x s has in_range fits made more h =
-    let same : h.entries ≡ log = (log_same box_text BoxInRange box_one a _ _ _ h.entries log h.log.in_range has.in_range h.log.log has.log).1 in
+    let same : h.entries ≡ log = (log_same box_text BoxInRange (box_one 2) a _ _ _ h.entries log h.log.in_range has.in_range h.log.log has.log).1 in
     record {
       entries = log ++ e ∷ [];
       log = box_log_more a b m.store box log e has in_range fits more;

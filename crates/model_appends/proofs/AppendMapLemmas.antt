@@ -35,6 +35,7 @@ listed_on a b m n row x sound s found some h =
       found = f.1;
       same = f.2.0 ∙ h.same;
       octets = kept_as a b f.0 f.0 x.octets s (count_itself f.0) (f.2.1 x.octets h.octets);
+      words = h.words;
     }
 
 covers_first : (m : MapMeaning) (x : ListedMessage) (xs : List ListedMessage) → AreCovered m (x ∷ xs) → 1 ≤ count_of m x.guid

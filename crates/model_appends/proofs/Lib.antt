@@ -13,3 +13,4 @@ pub mod ChangedLogsLemmas
 pub mod Common
 pub mod DeletedMailboxLemmas
 pub mod HeldLogLemmas
+pub mod KeywordLemmas

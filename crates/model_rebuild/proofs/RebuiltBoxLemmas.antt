@@ -17,6 +17,7 @@ use Rattle.model_meaning.specs.BoxMeaning.{LogRow, BoxMeaning, AllBoxFit, rows_a
 use Rattle.model_meaning.specs.MapMeaning.{MapRecord, MapMeaning, record_at}
 use Rattle.model_meaning.proofs.AppliedLemmas.{rows_by_added}
 use Rattle.model_meaning.proofs.BoxLemmas.{box_more}
+use Rattle.model_meaning.proofs.WordLemmas.{no_words}
 use Rattle.model_store.specs.Stands.{HasInstances, StoresMessage, AreListed, HasBox, IsMailbox, AreMailboxes}
 use Rattle.model_rebuild.proofs.MapFitLemmas.{boxes_from, records_from}
 use Rattle.model_rebuild.specs.RebuiltLists.{listed_from, sent_to, rebuilt_mailbox, mailboxes_from}

@@ -59,7 +59,7 @@ mail_stored a b = record { mails = λ n. refl; instances = λ hash id. refl }
 one_mailbox : (g : ℕ) (m n : MapMeaning) (a b : Files) (box other : MapBox) (log later : List BoxEntry) (x : Mailbox) → CarriesMail m a b → n.records ≡ m.records → other.number ≡ box.number → other.name ≡ box.name
     → box_meaning later ≡ box_meaning log → PassesBox a m box log → PassesBox b n other later → IsMailbox a m box x → IsMailbox b n other x
 one_mailbox g m n a b box other log later x mail records number name means p q h =
-    let same : h.entries ≡ log = (log_same box_text BoxInRange box_one a _ _ _ h.entries log h.log.in_range p.log.in_range h.log.log p.log.log).1 in
+    let same : h.entries ≡ log = (log_same box_text BoxInRange (box_one 2) a _ _ _ h.entries log h.log.in_range p.log.in_range h.log.log p.log.log).1 in
     let one : box_meaning h.entries ≡ box_meaning later = ap box_meaning same ∙ sym means in
     record {
       entries = later;

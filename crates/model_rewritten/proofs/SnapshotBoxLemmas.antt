@@ -14,6 +14,7 @@ use Rattle.model_meaning.proofs.MapPlaceLemmas.{equal_is}
 use Rattle.model_meaning.specs.BoxMeaning.{LogRow, BoxMeaning, box_meaning, box_applied, AllBoxFit}
 use Rattle.model_meaning.specs.Sound.{IsSoundRow, IsSoundBox}
 use Rattle.model_octets.proofs.PairLemmas.{pairs_head, pairs_tail}
+use Rattle.model_appends.proofs.KeywordLemmas.{words_fit}
 use Rattle.model_rewritten.specs.Rewriting.{row_entry, next_from, box_snapshot, IsRewrittenBox}
 
 abbrev Rises : LogRow → LogRow → Type 0
