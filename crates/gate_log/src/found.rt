@@ -2,7 +2,7 @@
 ghost use Rattle.std.specs.Prelude.{◌≡◌, ◌↔◌, ℕ, List, length, Some, IsTrue, IfOk, IfErr, OnOk, IsErr, IsErrOf, IsOk};
 ghost use Rattle.disk_model.specs.FaultCounts.{NoFault, ChangeFaultCounted, ReadFaultCounted};
 ghost use Rattle.disk_model.specs.Disk.{EachImage, OthersStay, SameButFor, IfTold, Keeps, reading, IsIdle};
-ghost use Rattle.model_logs.specs.LogFile.{IsLogFile, IsLog, log_end};
+ghost use Rattle.model_logs.specs.LogFile.{IsVersionOf, IsLogFile, IsLog, log_end};
 ghost use Rattle.gate_log.specs.State.{IsWholeLog};
 ghost use Rattle.gate_log.specs.Log.{Reads, Holds, IsFound, IsFoundKept};
 ghost use Rattle.gate_log.specs.Reading.{IsReading, IsOpenError};
@@ -52,6 +52,7 @@ pub fn inspect_text<D: Disk>(
     name: FileName,
     head: LogHead,
 ) -> Result<(FoundLog, LogText), LogError>
+    requires version { IsVersionOf head.kind head.version }
     // After Ok what was read is what the file has.
     ensures octets { IfOk result (λ found. IfTold (D.history disk.old) (λ now. reading (now name) ≡ Some found.1.octets)) }
     ensures text { IfOk result (λ found. (entries : List (List ℕ)) × IsLogText found.1 entries) }
@@ -97,6 +98,7 @@ pub fn inspect_log<D: Disk>(
     name: FileName,
     head: LogHead,
 ) -> Result<(FoundLog, LogRead), LogError>
+    requires version { IsVersionOf head.kind head.version }
     // After Ok what was read is what the file has.
     ensures octets { IfOk result (λ found. (octets : List ℕ) × IsReading octets found.1 × IfTold (D.history disk.old) (λ now. reading (now name) ≡ Some octets)) }
     ensures log { IfOk result (λ found. (found.0.name ≡ name) × (found.0.head ≡ head) × (found.0.end ≡ found.1.end) × (found.1.head ≡ head)) }

@@ -1,11 +1,11 @@
 // The head of a log, as octets.
-ghost use Rattle.std.specs.Prelude.{◌≡◌, ◌≢◌, ◌+◌, ◌<◌, ◌≤◌, ◌^◌, length, take, drop, MatchOption, MatchResult, position, Some, None, not, ◌==◌, []};
+ghost use Rattle.std.specs.Prelude.{◌≡◌, ◌≢◌, ◌+◌, ◌<◌, ◌≤◌, ◌^◌, length, take, drop, ◌⊎◌, MatchOption, MatchResult, position, Some, None, not, ◌==◌, []};
 ghost use Rattle.model_logs.specs.declared.log_head.LogKind.{LogKind};
 ghost use Rattle.std.specs.Int.{w32, from_be_bytes};
 ghost use Rattle.std.specs.List.{zip};
 ghost use Rattle.mdbox_base.specs.Words.{IsOctets};
 ghost use Rattle.gate_log.specs.Log.{log_text};
-ghost use Rattle.model_logs.specs.LogFile.{HeadFits, head_octets, kind_letter, IsHeadDamaged};
+ghost use Rattle.model_logs.specs.LogFile.{IsVersionOf, HeadFits, head_octets, kind_letter, IsHeadDamaged};
 
 use crate::gate::CLOSED;
 use mdbox_base::StoreId;
@@ -14,19 +14,24 @@ use model_logs::{LogHead, LogKind};
 /// How many octets a head has.
 pub const HEAD_SIZE: usize = 25;
 
+/// Where the digit of the version stands.
+const VERSION_PLACE: usize = 7;
+
 /// Where the letter of the kind stands.
 const KIND_PLACE: usize = 16;
 
-/// What every log begins with.
-const MAGIC: [u8; 8] = *b"MDBXLOG1";
+/// What every log begins with. The digit of its version follows.
+const MAGIC: [u8; 7] = *b"MDBXLOG";
 
 /// The octets of a head.
 pub fn head_text(head: LogHead) -> [u8; 25]
+    requires version { IsVersionOf head.kind head.version }
     ensures { result ≡ head_octets head }
 {
     fits(head);
     let mut text = [0; HEAD_SIZE];
-    text[..8].copy_from_slice(&MAGIC);
+    let digit = b'0' + head.version;
+    text[..8].copy_from_slice(&[b'M', b'D', b'B', b'X', b'L', b'O', b'G', digit]);
     text[8..16].copy_from_slice(&head.store.0);
     text[16] = head.kind.letter();
     text[17..21].copy_from_slice(&head.number.to_be_bytes());
@@ -36,6 +41,7 @@ pub fn head_text(head: LogHead) -> [u8; 25]
 
 /// The octets of a log without entries: its head and a closed gate.
 pub fn first_text(head: LogHead) -> [u8; 26]
+    requires version { IsVersionOf head.kind head.version }
     ensures text { result ≡ log_text head [] }
     ensures fits { HeadFits head }
 {
@@ -45,8 +51,9 @@ pub fn first_text(head: LogHead) -> [u8; 26]
     text
 }
 
-/// A head fits its octets.
+/// A head fits its octets, where its kind may have its version.
 pub fn fits(head: LogHead)
+    requires version { IsVersionOf head.kind head.version }
     ensures { HeadFits head }
 {
     ranges(head.store.0, head.number, head.generation)
@@ -61,13 +68,25 @@ fn ranges(store: [u8; 8], number: u32, generation: u32)
     let _octets = store.as_slice();
 }
 
-/// The kind with this letter.
-fn kind_of(letter: u8) -> Option<LogKind>
-    ensures { MatchOption result ((kind : LogKind) → kind_letter kind ≢ letter) (λ kind. kind_letter kind ≡ letter) }
+/// The version with this digit.
+fn version_with(digit: u8) -> Option<u8>
+    ensures { MatchOption result ((digit ≢ 49) × (digit ≢ 50)) (λ version. (48 + version ≡ digit) × ((version ≡ 1) ⊎ (version ≡ 2))) }
+{
+    match digit {
+        b'1' => Some(1),
+        b'2' => Some(2),
+        _ => None,
+    }
+}
+
+/// The kind with this letter, which a log of this version may have.
+fn kind_with(letter: u8, version: u8) -> Option<LogKind>
+    requires { (version ≡ 1) ⊎ (version ≡ 2) }
+    ensures { MatchOption result ((kind : LogKind) → IsVersionOf kind version → kind_letter kind ≢ letter) (λ kind. IsVersionOf kind version × (kind_letter kind ≡ letter)) }
 {
     match letter {
-        b'R' => Some(LogKind::Root),
-        b'M' => Some(LogKind::Map),
+        b'R' if version == 1 => Some(LogKind::Root),
+        b'M' if version == 1 => Some(LogKind::Map),
         b'B' => Some(LogKind::Box),
         _ => None,
     }
@@ -85,6 +104,7 @@ fn first_difference(octets: &[u8], wanted: &[u8]) -> Option<usize>
 
 /// Finds the damage of a log that is to have this head, where its head or its first gate isn't whole.
 pub fn check_head(octets: &[u8], head: LogHead) -> Result<(), u64>
+    requires version { IsVersionOf head.kind head.version }
     ensures { MatchResult result (λ _. HeadFits head × (25 < length octets.now) × (take 25 octets.now ≡ head_octets head)) (λ place. IsHeadDamaged (Some head) octets.now place) }
 {
     fits(head);
@@ -102,22 +122,29 @@ pub fn read_head(octets: &[u8]) -> Result<LogHead, u64>
     if let Some(place) = first_difference(octets, &MAGIC) {
         return Err(place as u64);
     }
+    if octets.len() <= VERSION_PLACE {
+        return Err(octets.len() as u64);
+    }
+    let Some(version) = version_with(octets[VERSION_PLACE]) else {
+        return Err(VERSION_PLACE as u64);
+    };
     if octets.len() <= KIND_PLACE {
         return Err(octets.len() as u64);
     }
-    let Some(kind) = kind_of(octets[KIND_PLACE]) else {
+    let Some(kind) = kind_with(octets[KIND_PLACE], version) else {
         return Err(KIND_PLACE as u64);
     };
     if octets.len() <= HEAD_SIZE {
         return Err(octets.len() as u64);
     }
     let (text, _) = octets.split_at(HEAD_SIZE);
-    Ok(head_in(text, kind))
+    Ok(head_in(text, version, kind))
 }
 
 /// The head that these octets spell.
-fn head_in(text: &[u8], kind: LogKind) -> LogHead
+fn head_in(text: &[u8], version: u8, kind: LogKind) -> LogHead
     requires { length text.now ≡ 25 }
+    ensures version { result.version ≡ version }
     ensures store { result.store.0 ≡ take 8 (drop 8 text.now) }
     ensures kind { result.kind ≡ kind }
     ensures number { result.number ≡ from_be_bytes w32 (take 4 (drop 17 text.now)) }
@@ -126,6 +153,7 @@ fn head_in(text: &[u8], kind: LogKind) -> LogHead
     let mut store = [0; 8];
     store.copy_from_slice(&text[8..16]);
     LogHead {
+        version,
         store: StoreId(store),
         kind,
         number: number_in(&text[17..21]),

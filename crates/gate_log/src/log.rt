@@ -2,7 +2,7 @@
 ghost use Rattle.std.specs.Prelude.{◌≡◌, ◌≢◌, Some, IsErrOf, ◌+◌, ◌-◌, ◌*◌, ◌<◌, ◌≤◌, ◌^◌, ◌++◌, ◌∷◌, [], ℕ, List, All, length, sum, max, OnOk, OnErr, IfOk, IfErr, IsErr, IsOk};
 ghost use Rattle.disk_model.specs.FaultCounts.{NoFault, ChangeFaultCounted, AnyFaultCounted};
 ghost use Rattle.disk_model.specs.Disk.{EachImage, OthersStay, SameButFor, IfTold, Keeps, reading, IsIdle};
-ghost use Rattle.model_logs.specs.LogFile.{IsLog, IsLogFile};
+ghost use Rattle.model_logs.specs.LogFile.{IsVersionOf, IsLog, IsLogFile};
 ghost use Rattle.gate_log.specs.State.{LogState, IsSameLog};
 ghost use Rattle.gate_log.specs.Log.{Reads, Holds, cut_by, IsLogWithOrWithout, IsLogWithOrWithoutAll, IsAtMostAsLong, NamedButFor};
 ghost use Rattle.gate_log.specs.Reading.{IsReading, IsOpenError};
@@ -191,6 +191,7 @@ pub fn create_log<D: Disk>(
     name: FileName,
     head: LogHead,
 ) -> Result<GateLog, LogError>
+    requires version { IsVersionOf head.kind head.version }
     // At every moment of the call each image has in this file no more octets than it could have before, or than 26.
     ensures any_moment { EachImage (λ _ image. IfTold (D.history disk.old) (λ before. IsAtMostAsLong 26 (before name) (image name)) × OthersStay name (D.history disk.old) image) (D.history disk.old) (D.history disk.new) }
     ensures made { IfOk result (λ log. Holds log [] (D.history disk.new)) }
@@ -213,6 +214,7 @@ pub fn open_log<D: Disk>(
     name: FileName,
     head: LogHead,
 ) -> Result<(GateLog, LogRead), LogError>
+    requires version { IsVersionOf head.kind head.version }
     // At every moment of the call each image has the same entries.
     ensures any_moment { (octets : List ℕ) (entries : List (List ℕ)) → IfTold (D.history disk.old) (λ now. Keeps (now name) octets) → IsLog octets head entries
         → EachImage (λ _ image. IsLogFile (image name) head entries × OthersStay name (D.history disk.old) image) (D.history disk.old) (D.history disk.new) }

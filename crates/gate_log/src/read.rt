@@ -1,7 +1,7 @@
 // Reading a log.
 ghost use Rattle.std.specs.Prelude.{◌≡◌, ◌<◌, ℕ, List, Option, Some, None, length, take, IfOk, IfErr};
 ghost use Rattle.model_logs.specs.declared.log_head.LogHead.{LogHead};
-ghost use Rattle.model_logs.specs.LogFile.{HeadFits, head_octets, IsTaken};
+ghost use Rattle.model_logs.specs.LogFile.{IsVersionOf, HeadFits, head_octets, IsTaken};
 ghost use Rattle.gate_log.specs.Reading.{IsReading, IsReadError};
 
 use crate::error::LogError;
@@ -37,6 +37,7 @@ pub fn read_log(alloc: Global, octets: &[u8]) -> Result<LogRead, LogError>
 
 /// Reads the log that has this head.
 pub fn read_log_of(alloc: Global, octets: &[u8], head: LogHead) -> Result<LogRead, LogError>
+    requires version { IsVersionOf head.kind head.version }
     ensures read { IfOk result (λ read. IsReading octets.now read × (read.head ≡ head)) }
     ensures refused { IfErr result (IsReadError (Some head) octets.now) }
 {

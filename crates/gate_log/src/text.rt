@@ -1,7 +1,7 @@
 // Logs whose octets are kept as they were read.
 ghost use Rattle.std.specs.Prelude.{◌≡◌, ◌<◌, ◌+◌, ℕ, List, Option, length, take, IfOk, IfErr, IfSome, IsNone};
 ghost use Rattle.model_logs.specs.declared.log_head.LogHead.{LogHead};
-ghost use Rattle.model_logs.specs.LogFile.{HeadFits, head_octets, IsTaken, IsDamagedAt};
+ghost use Rattle.model_logs.specs.LogFile.{IsVersionOf, HeadFits, head_octets, IsTaken, IsDamagedAt};
 ghost use Rattle.gate_log.specs.Reading.{IsDamage};
 ghost use Rattle.gate_log.specs.Text.{IsLogText, HasEntriesAt, IsNextEntry};
 
@@ -75,6 +75,7 @@ pub fn check_log(octets: Octets) -> Result<LogText, LogError>
 
 /// The log of this head that these octets are.
 pub fn check_log_of(octets: Octets, head: LogHead) -> Result<LogText, LogError>
+    requires version { IsVersionOf head.kind head.version }
     ensures checked { IfOk result (λ text. (entries : List (List ℕ)) × IsLogText text entries × (text.octets ≡ octets) × (text.head ≡ head)) }
     ensures refused { IfErr result (IsDamage (Some head) octets) }
 {

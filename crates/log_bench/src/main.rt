@@ -16,6 +16,7 @@ use std::env;
 const NAME: FileName = FileName::Map(1);
 
 const HEAD: LogHead = LogHead {
+    version: 1,
     store: StoreId([1; 8]),
     kind: LogKind::Map,
     number: 0,

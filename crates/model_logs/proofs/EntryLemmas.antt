@@ -1,8 +1,10 @@
 -- Entries have one spelling.
-use Rattle.std.specs.Prelude.{◌≡◌, ◌==◌, ◌<◌, ℕ, List, [], ◌∷◌, ◌++◌, Bool, true, false, length, flat_map, map, refl}
+use Rattle.std.specs.Prelude.{◌≡◌, ◌==◌, ◌<◌, ◌≤◌, ℕ, List, [], ◌∷◌, ◌++◌, All, Bool, true, false, length, flat_map, map, refl}
 use Rattle.std.specs.List.{AllByRecursion}
 use Rattle.std.specs.Int.{w64, to_be_bytes}
 use Rattle.std.proofs.Common.{ap, sym, ◌∙◌, append_assoc, arith}
+use Rattle.std.proofs.lemmas.List.Elements.{All-head, All-tail}
+use Rattle.mdbox_base.specs.Keywords.{IsKeyword, AreWords}
 use Rattle.mdbox_base.specs.declared.ids.Guid.{Guid}
 use Rattle.mdbox_base.specs.declared.ids.Uid.{Uid}
 use Rattle.mdbox_base.specs.declared.ids.MapUid.{MapUid}
@@ -112,3 +114,15 @@ box_one version (box.A u f t s m g a) (box.N n) p q e = absurd (differ 65 78 _ _
 box_one version (box.A u f t s m g a) (box.R v) p q e = absurd (differ 65 82 _ _ e refl)
 box_one version (box.A u f t s m g a) (box.F v h) p q e = absurd (differ 65 70 _ _ e refl)
 box_one version (box.A u f t s m g a) (box.K v b) p q e = absurd (differ 65 75 _ _ e refl)
+
+below_256 : (words : List (List ℕ)) → All IsKeyword words → AllByRecursion (λ word. length word < 256) words
+below_256 [] all = tt
+below_256 (w ∷ words) all =
+    let k : length w ≤ 64 = (All-head IsKeyword w words all).short in
+    (omega (arith, k), below_256 words (All-tail IsKeyword w words all))
+
+-- keywords of a message fit their widths
+pub words_in_range : (words : List (List ℕ)) → AreWords words → WordsInRange true words
+words_in_range words w =
+    let few : length words ≤ 32 = w.few in
+    (omega (arith, few), below_256 words w.each)

@@ -11,7 +11,7 @@ use Rattle.model_logs.specs.declared.log_head.LogKind.{LogKind}
 use Rattle.model_logs.specs.declared.log_head.LogKind.TheVariants.{Root, Map, Box}
 use Rattle.model_octets.proofs.PiecesLemmas.{split_same}
 use Rattle.model_octets.proofs.NumberLemmas.{four_same, front, behind}
-use Rattle.model_logs.specs.LogFile.{kind_letter, HeadFits, head_octets, record_octets, EntryFits, opened, log_front, end_from, log_end, record_places_from, EndsLog, IsLog, IsTaken, BeginsHead, IsHeadDamaged, BeginsRecord, IsRecordDamaged, IsDamagedAt}
+use Rattle.model_logs.specs.LogFile.{kind_letter, IsVersionOf, version_of, HeadFits, head_octets, record_octets, EntryFits, opened, log_front, end_from, log_end, record_places_from, EndsLog, IsLog, IsTaken, BeginsHead, IsHeadDamaged, BeginsRecord, IsRecordDamaged, IsDamagedAt}
 
 -- a record begins no other
 pub record_same : (a b x y : List ℕ) → EntryFits a → EntryFits b → record_octets a ++ x ≡ record_octets b ++ y → (a ≡ b) × (x ≡ y)
@@ -30,6 +30,12 @@ kind_same Map Box e = absurd (omega (arith, e))
 kind_same Box Root e = absurd (omega (arith, e))
 kind_same Box Map e = absurd (omega (arith, e))
 kind_same Box Box e = refl
+
+-- a kind may have the version in which its logs are written
+pub written_fits : (kind : LogKind) → IsVersionOf kind (version_of kind)
+written_fits Root = refl
+written_fits Map = refl
+written_fits Box = inr refl
 
 numbers : LogHead → List ℕ
 numbers h = to_be_bytes w32 h.number ++ to_be_bytes w32 h.generation

@@ -109,6 +109,7 @@ fn head_of(store: StoreId, kind: LogKind, number: u32, generation: u32) -> LogHe
     ensures { result ≡ head_of store.0 kind number generation }
 {
     LogHead {
+        version: kind.version(),
         store,
         kind,
         number,
