@@ -1,7 +1,7 @@
 // Keywords of messages.
 ghost use Rattle.std.specs.Prelude.{◌≡◌, ◌≢◌, ◌≤◌, ◌↔◌, [], ℕ, List, All, AllPairs, IsTrue, IsErr, IfOk};
 ghost use Rattle.std.specs.Cmp.Lexicographic.{slice_cmp};
-ghost use Rattle.std.specs.Ordering.{nat_cmp};
+ghost use Rattle.std.specs.Ordering.{nat_cmp, is_lt};
 ghost use Rattle.std.specs.declared.cmp.Ordering.TheVariants.{Less};
 ghost use Rattle.mdbox_base.specs.Keywords.{IsAtomOctet, IsKeyword, AreWords};
 
@@ -121,5 +121,11 @@ fn is_atom_octet(octet: u8) -> bool
 fn is_rising(texts: &[Octets]) -> bool
     ensures { IsTrue result ↔ AllPairs (λ a b. slice_cmp nat_cmp a b ≡ Less) texts.now }
 {
-    texts.is_sorted_by(|a, b| a.as_slice() < b.as_slice())
+    texts.is_sorted_by(comes_before)
+}
+
+fn comes_before(a: &Octets, b: &Octets) -> bool
+    ensures { result ≡ is_lt (slice_cmp nat_cmp a.now b.now) }
+{
+    a.as_slice() < b.as_slice()
 }
