@@ -1,11 +1,11 @@
 // Printing the entries of a log, gathered in pieces.
-ghost use Rattle.std.specs.Prelude.{◌≡◌, ◌≤◌, ◌*◌, ◌++◌, ◌∷◌, [], ℕ, List, length, IfOk, IfErr, OnOk, OnErr};
+ghost use Rattle.std.specs.Prelude.{◌≡◌, ◌==◌, ◌≤◌, ◌*◌, ◌++◌, ◌∷◌, [], ℕ, List, length, IfOk, IfErr, OnOk, OnErr};
 ghost use Rattle.hex.specs.Hex.{encode_lower};
 ghost use Rattle.mdbox_base.specs.Numbers.{decimal_text};
 ghost use Rattle.mdbox_base.specs.Streams.{Appended};
 ghost use Rattle.model_logs.specs.LogFile.{kind_letter};
 ghost use Rattle.gate_log.specs.Text.{IsLogText};
-ghost use Rattle.dump_text.specs.LogDumpText.{head_line, entry_line, end_line, log_dump_text};
+ghost use Rattle.dump_text.specs.LogDumpText.{version_mark, head_line, entry_line, end_line, log_dump_text};
 ghost use Rattle.piece_writer.specs.Pieces.{Gathers, WritesPrefix, IsPrintError};
 
 use gate_log::LogText;
@@ -29,6 +29,13 @@ fn letter_of(kind: LogKind) -> &'static [u8]
     }
 }
 
+/// What a log of version 2 has at the end of its first line.
+fn mark_of(version: u8) -> &'static [u8]
+    ensures { result.now ≡ version_mark (version == 2) }
+{
+    if version == 2 { b" V2" } else { b"" }
+}
+
 /// The line of a log's head.
 fn head_text(alloc: Global, head: LogHead) -> Result<Octets, NoMemory>
     ensures { IfOk result (λ text. text ≡ head_line head) }
@@ -40,6 +47,7 @@ fn head_text(alloc: Global, head: LogHead) -> Result<Octets, NoMemory>
     push_decimal(&mut text, head.number as u64)?;
     text.push_all(b" ")?;
     push_decimal(&mut text, head.generation as u64)?;
+    text.push_all(mark_of(head.version))?;
     text.push_all(b"\n")?;
     Ok(text)
 }

@@ -3,3 +3,4 @@ pub mod ListItemLemmas
 pub mod NumberTextLemmas
 pub mod PlacedLemmas
 pub mod StoredEntryLemmas
+pub mod WordTextLemmas

@@ -26,7 +26,7 @@ pub all_more : {X : Type 0} → (P : X → Type 0) (xs : List X) (x : X) → All
 all_more P [] x all one = (one, tt)
 all_more P (y ∷ xs) x all one = (all.0, all_more P xs x all.1 one)
 
-flat_one : {X : Type 0} → (text : X → List ℕ) (xs : List X) (x : X) → flat_map text (xs ++ x ∷ []) ≡ flat_map text xs ++ text x
+pub flat_one : {X : Type 0} → (text : X → List ℕ) (xs : List X) (x : X) → flat_map text (xs ++ x ∷ []) ≡ flat_map text xs ++ text x
 flat_one text xs x = flat_map-append text xs (x ∷ []) ∙ ap (λ (t : List ℕ). flat_map text xs ++ t) (append-nil (text x))
 
 -- one item more was read

@@ -1,2 +1,4 @@
+pub mod Added
 pub mod Refused
 pub mod Stored
+pub mod Worded

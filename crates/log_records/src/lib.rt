@@ -6,6 +6,7 @@ pub use map_read::read_map_entry;
 pub use map_write::{map_entry_size, push_map_entry, put_map_entry};
 pub use root::{push_root_entry, read_root_entry};
 
+mod added;
 mod fields;
 mod items;
 mod lists;
@@ -14,3 +15,4 @@ mod map_read;
 mod map_write;
 mod root;
 mod stored;
+mod worded;

@@ -40,7 +40,7 @@ pub guid_same : (a b : Guid) → a.0 ≡ b.0 → a ≡ b
 guid_same a b e = ap (λ (n : List ℕ). let u : Guid = record { 0 = n } in u) e
 
 -- a list of keywords begins no other
-words_same : (a b : List (List ℕ)) (x y : List ℕ) → length a ≡ length b → flat_map name_text a ++ x ≡ flat_map name_text b ++ y → (a ≡ b) × (x ≡ y)
+pub words_same : (a b : List (List ℕ)) (x y : List ℕ) → length a ≡ length b → flat_map name_text a ++ x ≡ flat_map name_text b ++ y → (a ≡ b) × (x ≡ y)
 words_same [] [] x y l e = (refl, e)
 words_same [] (w ∷ b) x y l e = cc l
 words_same (w ∷ a) [] x y l e = cc l

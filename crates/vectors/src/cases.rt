@@ -128,7 +128,7 @@ impl Cases {
         let octets = octets.as_slice();
         match command.word {
             "hello" => self.begin_lists(octets),
-            "root" | "mailbox" | "map" | "read-log" | "cuts" | "scan" => {
+            "root" | "mailbox" | "old-mailbox" | "map" | "read-log" | "cuts" | "scan" => {
                 self.of_files(command.word, octets)
             }
             "parts" | "prepare" | "fields" | "lines" | "recognise" => {
@@ -153,7 +153,8 @@ impl Cases {
         let out = self.page.report.found();
         match word {
             "root" => tell_root(self.alloc, out, octets)?,
-            "mailbox" => tell_box(self.alloc, out, octets)?,
+            "mailbox" => tell_box(self.alloc, out, octets, 2)?,
+            "old-mailbox" => tell_box(self.alloc, out, octets, 1)?,
             "map" => tell_map(self.alloc, out, octets)?,
             "read-log" => tell_log(self.alloc, out, octets)?,
             "cuts" => tell_cuts(self.alloc, out, octets)?,

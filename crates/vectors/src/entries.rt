@@ -1,4 +1,6 @@
 // Entries of logs.
+ghost use Rattle.std.specs.Prelude.{◌≡◌, ◌⊎◌};
+
 use crate::line_text::{push_digits, push_line, push_octets};
 use log_records::{
     push_box_entry, push_map_entry, push_root_entry, read_box_entry, read_map_entry,
@@ -20,15 +22,16 @@ pub fn tell_root(alloc: Global, out: &mut String, octets: &[u8]) -> Result<(), N
     tell_written(out, octets, written.as_slice())
 }
 
-/// An entry of a mailbox log, and whether it is written as it was read.
-pub fn tell_box(alloc: Global, out: &mut String, octets: &[u8]) -> Result<(), NoMemory> {
-    let Some(entry) = read_box_entry(octets)? else {
+/// An entry of a mailbox log of this version, and whether it is written as it was read.
+pub fn tell_box(alloc: Global, out: &mut String, octets: &[u8], version: u8) -> Result<(), NoMemory>
+    requires { (version ≡ 1) ⊎ (version ≡ 2) }
+{
+    let Some(entry) = read_box_entry(alloc, octets, version)? else {
         return push_line(out, "none");
     };
-    let text = box_text(alloc, &entry)?;
-    push_line(out, text.as_str())?;
+    push_box(alloc, out, &entry)?;
     let mut written = Octets::empty(alloc);
-    push_box_entry(&mut written, &entry)?;
+    push_box_entry(alloc, &mut written, &entry)?;
     tell_written(out, octets, written.as_slice())
 }
 
@@ -50,9 +53,24 @@ fn tell_written(out: &mut String, octets: &[u8], written: &[u8]) -> Result<(), N
     push_octets(out, "written as ", written)
 }
 
+/// An entry of a mailbox log, and a line for each of its keywords.
+fn push_box(alloc: Global, out: &mut String, entry: &BoxEntry) -> Result<(), NoMemory> {
+    let text = box_text(alloc, entry)?;
+    push_line(out, text.as_str())?;
+    if let BoxEntry::A { words, .. } | BoxEntry::K { words, .. } = entry {
+        for word in words.as_slice() {
+            push_octets(out, "  ", word.as_slice())?;
+        }
+    }
+    Ok(())
+}
+
 fn box_text(alloc: Global, entry: &BoxEntry) -> Result<String, NoMemory> {
-    Ok(match *entry {
-        BoxEntry::N { next } => format!(in alloc; "next UID {next}")?,
+    Ok(match entry {
+        BoxEntry::N { next } => {
+            let next = *next;
+            format!(in alloc; "next UID {next}")?
+        }
         BoxEntry::A {
             uid,
             flags,
@@ -60,8 +78,10 @@ fn box_text(alloc: Global, entry: &BoxEntry) -> Result<String, NoMemory> {
             size,
             map_uid,
             guid,
+            ..
         } => {
             let (uid, map_uid) = (uid.0, map_uid.0);
+            let (flags, time, size) = (*flags, *time, *size);
             let mut text = format!(in alloc;
                 "add {uid}, flags {flags}, time {time}, size {size}, record {map_uid}, "
             )?;
@@ -69,8 +89,12 @@ fn box_text(alloc: Global, entry: &BoxEntry) -> Result<String, NoMemory> {
             text
         }
         BoxEntry::F { uid, flags } => {
-            let uid = uid.0;
+            let (uid, flags) = (uid.0, *flags);
             format!(in alloc; "set {uid}, flags {flags}")?
+        }
+        BoxEntry::K { uid, words } => {
+            let (uid, count) = (uid.0, words.length());
+            format!(in alloc; "set {uid}, keywords {count}")?
         }
         BoxEntry::R { uid } => {
             let uid = uid.0;
