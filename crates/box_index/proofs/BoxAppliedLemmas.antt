@@ -9,7 +9,7 @@ use Rattle.model_meaning.specs.BoxMeaning.{LogRow, BoxMeaning, box_applied, BoxF
 use Rattle.box_index.specs.declared.index.BoxRow.{BoxRow}
 use Rattle.box_index.specs.declared.index.RowChange.{RowChange}
 use Rattle.box_index.specs.declared.index.RowChange.TheVariants as change
-use Rattle.box_index.specs.Row.{row_of, IsInOrder, changed}
+use Rattle.box_index.specs.Row.{row_of, IsInOrder, changed_row}
 use Rattle.box_index.proofs.RowLemmas.{filter-all, map-same, map-append, change_entry, changed-rows, removed-rows, rise-higher, rise-append, rise-changed, rise-removed}
 
 abbrev made : List LogRow → ℕ → BoxMeaning
@@ -31,7 +31,7 @@ pub applied-added : (m : BoxMeaning) (uid : Uid) (flags time size : ℕ) (map_ui
 applied-added m uid flags time size map_uid guid words rows fits e =
     same _ _ _ _ (e ∙ ap (λ t. t ++ record { uid = uid.0; flags = flags; time = time; size = size; map_uid = map_uid.0; guid = guid.0; words = words } ∷ []) (sym (kept m.rows))) (let no_less = fits.0 in omega arith)
 
-pub applied-changed : (m : BoxMeaning) (uid : Uid) (how : RowChange) (old new : List BoxRow) → 1 ≤ m.next → m.rows ≡ map row_of old → new ≡ map (changed uid.0 how) old
+pub applied-changed : (m : BoxMeaning) (uid : Uid) (how : RowChange) (old new : List BoxRow) → 1 ≤ m.next → m.rows ≡ map row_of old → new ≡ map (changed_row uid.0 how) old
     → made (map row_of new) m.next ≡ box_applied (change_entry uid how) m
 applied-changed m uid (change.Flags flags) old new some e f =
     same _ _ _ _ (ap (map row_of) f ∙ changed-rows uid (change.Flags flags) old ∙ sym (append-nil _ ∙ rw filter-all (ap (map (row_changed (entry.F uid flags))) e))) (omega arith)
@@ -62,12 +62,12 @@ order-added m uid flags time size map_uid guid words row rows order fits u e = r
   few = let room = fits.4 in rw e (omega (arith, length-append m.rows (row ∷ [])));
 }
 
-pub order-changed : (m : BoxMeaning) (uid : Uid) (how : RowChange) (old new : List BoxRow) → IsInOrder m → m.rows ≡ map row_of old → new ≡ map (changed uid.0 how) old → IsInOrder (made (map row_of new) m.next)
+pub order-changed : (m : BoxMeaning) (uid : Uid) (how : RowChange) (old new : List BoxRow) → IsInOrder m → m.rows ≡ map row_of old → new ≡ map (changed_row uid.0 how) old → IsInOrder (made (map row_of new) m.next)
 order-changed m uid how old new order e f = record {
   rise = rw (f, changed-rows uid how old, ← e) (rise-changed 1 m.next uid how m.rows order.rise);
   some = order.some;
   last = order.last;
-  few = let few = order.few in let size : length (map row_of old) ≤ 1000000 = rw (← e) few in rw f (omega (arith, length-map (map (changed uid.0 how) old) row_of, length-map old (changed uid.0 how), length-map old row_of));
+  few = let few = order.few in let size : length (map row_of old) ≤ 1000000 = rw (← e) few in rw f (omega (arith, length-map (map (changed_row uid.0 how) old) row_of, length-map old (changed_row uid.0 how), length-map old row_of));
 }
 
 pub order-removed : (m : BoxMeaning) (uid : Uid) (old new : List BoxRow) → IsInOrder m → m.rows ≡ map row_of old → new ≡ filter (λ row. not (uid.0 == row.uid.0)) old → IsInOrder (made (map row_of new) m.next)

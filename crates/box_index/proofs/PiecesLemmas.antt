@@ -11,7 +11,7 @@ use Rattle.std.proofs.lemmas.List.Elements.{All-nil, All-head, All-tail, All-tak
 use Rattle.box_index.specs.declared.index.BoxRow.{BoxRow}
 use Rattle.box_index.specs.declared.index.RowChange.{RowChange}
 use Rattle.std.specs.Option.{SomeIff}
-use Rattle.box_index.specs.Row.{row_of, changed, UidsRise}
+use Rattle.box_index.specs.Row.{row_of, changed_row, UidsRise}
 use Rattle.box_index.specs.Pieces.{HeldRows, rows_in, AreFilled, AreRising, LacksUid, begins_by, IsOnlyIn}
 use Rattle.box_index.proofs.RisingLemmas.{rise-end, rise-parts, lacks-below, lacks-above, find-after, find-before, change-after, change-before, filter-after, filter-before}
 
@@ -145,13 +145,13 @@ found-in uid pieces place piece only e =
     ∙ find-before uid (get_or pieces place piece).rows (rows_in (drop (place + 1) pieces)) only.2
     ∙ ap (λ (p : HeldRows). find (λ (row : BoxRow). row.uid.0 == uid) p.rows) (sym e)
 
-pub changed-in : (uid : ℕ) (change : RowChange) (pieces : List HeldRows) (place : ℕ) (piece later : HeldRows) → IsOnlyIn uid pieces place → piece ≡ get_or pieces place piece → later.rows ≡ map (changed uid change) piece.rows
-    → rows_in (slice_set pieces place later) ≡ map (changed uid change) (rows_in pieces)
+pub changed-in : (uid : ℕ) (change : RowChange) (pieces : List HeldRows) (place : ℕ) (piece later : HeldRows) → IsOnlyIn uid pieces place → piece ≡ get_or pieces place piece → later.rows ≡ map (changed_row uid change) piece.rows
+    → rows_in (slice_set pieces place later) ≡ map (changed_row uid change) (rows_in pieces)
 changed-in uid change pieces place piece later only e is =
-    let all = ap (map (changed uid change)) (rows_in-split pieces place piece only.0)
+    let all = ap (map (changed_row uid change)) (rows_in-split pieces place piece only.0)
     ∙ change-after uid change (rows_in (take place pieces)) _ only.1
     ∙ ap (λ (t : List BoxRow). rows_in (take place pieces) ++ t) (change-before uid change (get_or pieces place piece).rows (rows_in (drop (place + 1) pieces)) only.2) in
-    let same : later.rows ≡ map (changed uid change) (get_or pieces place piece).rows = is ∙ ap (λ (p : HeldRows). map (changed uid change) p.rows) e in
+    let same : later.rows ≡ map (changed_row uid change) (get_or pieces place piece).rows = is ∙ ap (λ (p : HeldRows). map (changed_row uid change) p.rows) e in
     rows_in-set pieces place later only.0 ∙ ap (λ (t : List BoxRow). rows_in (take place pieces) ++ (t ++ rows_in (drop (place + 1) pieces))) same ∙ sym all
 
 pub removed-in : (uid : ℕ) (pieces : List HeldRows) (place : ℕ) (piece later : HeldRows) → IsOnlyIn uid pieces place → piece ≡ get_or pieces place piece → later.rows ≡ filter (λ row. not (uid == row.uid.0)) piece.rows
@@ -180,18 +180,18 @@ fewer-in pieces place piece later lt e one =
     ))
 
 -- a change doesn't change how many rows there are
-pub changed-filled : (uid : ℕ) (change : RowChange) (pieces : List HeldRows) (place : ℕ) (piece later : HeldRows) → AreFilled pieces → place < length pieces → piece ≡ get_or pieces place piece → later.rows ≡ map (changed uid change) piece.rows
+pub changed-filled : (uid : ℕ) (change : RowChange) (pieces : List HeldRows) (place : ℕ) (piece later : HeldRows) → AreFilled pieces → place < length pieces → piece ≡ get_or pieces place piece → later.rows ≡ map (changed_row uid change) piece.rows
     → AreFilled (slice_set pieces place later)
 changed-filled uid change pieces place piece later filled lt e is =
     let some = filled place piece lt in
     let same : length piece.rows ≡ length (get_or pieces place piece).rows = ap (λ (p : HeldRows). length p.rows) e in
-    let count : length later.rows ≡ length (map (changed uid change) piece.rows) = ap length is in
-    All-set (λ (piece : HeldRows). 1 ≤ length piece.rows) pieces place later (omega (arith, some, same, count, length-map piece.rows (changed uid change))) filled
+    let count : length later.rows ≡ length (map (changed_row uid change) piece.rows) = ap length is in
+    All-set (λ (piece : HeldRows). 1 ≤ length piece.rows) pieces place later (omega (arith, some, same, count, length-map piece.rows (changed_row uid change))) filled
 
-pub changed-length : (uid : ℕ) (change : RowChange) (pieces : List HeldRows) (place : ℕ) (piece later : HeldRows) (last : List BoxRow) → IsOnlyIn uid pieces place → piece ≡ get_or pieces place piece → later.rows ≡ map (changed uid change) piece.rows
+pub changed-length : (uid : ℕ) (change : RowChange) (pieces : List HeldRows) (place : ℕ) (piece later : HeldRows) (last : List BoxRow) → IsOnlyIn uid pieces place → piece ≡ get_or pieces place piece → later.rows ≡ map (changed_row uid change) piece.rows
     → length (rows_in pieces ++ last) ≡ length (rows_in (slice_set pieces place later) ++ last)
 changed-length uid change pieces place piece later last only e is =
-    rw (changed-in uid change pieces place piece later only e is) (omega (arith, length-append (rows_in pieces) last, length-append (map (changed uid change) (rows_in pieces)) last, length-map (rows_in pieces) (changed uid change)))
+    rw (changed-in uid change pieces place piece later only e is) (omega (arith, length-append (rows_in pieces) last, length-append (map (changed_row uid change) (rows_in pieces)) last, length-map (rows_in pieces) (changed_row uid change)))
 
 pub held-same : (rows more : List BoxRow) (room : ℕ) → rows ≡ more → (let held : HeldRows = record { rows = rows; room = room } in held) ≡ record { rows = more; room = room }
 held-same rows more room e = ap (λ (r : List BoxRow). record { rows = r; room = room }) e

@@ -9,7 +9,7 @@ use Rattle.std.proofs.lemmas.List.Folds.{find-append}
 use Rattle.std.proofs.lemmas.Bool.Decides.{nat_tests, leb_tells}
 use Rattle.box_index.specs.declared.index.BoxRow.{BoxRow}
 use Rattle.box_index.specs.declared.index.RowChange.{RowChange}
-use Rattle.box_index.specs.Row.{row_of, row_with, changed, UidsRise}
+use Rattle.box_index.specs.Row.{row_of, row_with, changed_row, UidsRise}
 use Rattle.box_index.specs.Pieces.{LacksUid}
 use Rattle.box_index.proofs.RowLemmas.{changed-same, changed-other}
 
@@ -80,7 +80,7 @@ find-lacks uid (row ∷ rows) h =
     let other = neq-eqb row.uid.0 uid (λ e. All-head (λ (row : BoxRow). uid ≢ row.uid.0) row rows h (sym e)) in
     rw other (find-lacks uid rows (All-tail (λ (row : BoxRow). uid ≢ row.uid.0) row rows h))
 
-pub change-lacks : (uid : ℕ) (change : RowChange) (rows : List BoxRow) → LacksUid uid rows → map (changed uid change) rows ≡ rows
+pub change-lacks : (uid : ℕ) (change : RowChange) (rows : List BoxRow) → LacksUid uid rows → map (changed_row uid change) rows ≡ rows
 change-lacks uid change [] h = refl
 change-lacks uid change (row ∷ rows) h =
     rw (changed-other uid change row (All-head (λ (row : BoxRow). uid ≢ row.uid.0) row rows h), change-lacks uid change rows (All-tail (λ (row : BoxRow). uid ≢ row.uid.0) row rows h)) refl
@@ -103,11 +103,11 @@ find-after uid front back lacks = rw (find-append (λ (row : BoxRow). row.uid.0 
 pub find-before : (uid : ℕ) (front back : List BoxRow) → LacksUid uid back → find (λ row. row.uid.0 == uid) (front ++ back) ≡ find (λ row. row.uid.0 == uid) front
 find-before uid front back lacks = rw (find-append (λ (row : BoxRow). row.uid.0 == uid) front back, find-lacks uid back lacks) (or-none _)
 
-pub change-after : (uid : ℕ) (change : RowChange) (front back : List BoxRow) → LacksUid uid front → map (changed uid change) (front ++ back) ≡ front ++ map (changed uid change) back
-change-after uid change front back lacks = rw (map-append (changed uid change) front back, change-lacks uid change front lacks) refl
+pub change-after : (uid : ℕ) (change : RowChange) (front back : List BoxRow) → LacksUid uid front → map (changed_row uid change) (front ++ back) ≡ front ++ map (changed_row uid change) back
+change-after uid change front back lacks = rw (map-append (changed_row uid change) front back, change-lacks uid change front lacks) refl
 
-pub change-before : (uid : ℕ) (change : RowChange) (front back : List BoxRow) → LacksUid uid back → map (changed uid change) (front ++ back) ≡ map (changed uid change) front ++ back
-change-before uid change front back lacks = rw (map-append (changed uid change) front back, change-lacks uid change back lacks) refl
+pub change-before : (uid : ℕ) (change : RowChange) (front back : List BoxRow) → LacksUid uid back → map (changed_row uid change) (front ++ back) ≡ map (changed_row uid change) front ++ back
+change-before uid change front back lacks = rw (map-append (changed_row uid change) front back, change-lacks uid change back lacks) refl
 
 pub filter-after : (uid : ℕ) (front back : List BoxRow) → LacksUid uid front → filter (λ row. not (uid == row.uid.0)) (front ++ back) ≡ front ++ filter (λ row. not (uid == row.uid.0)) back
 filter-after uid front back lacks = rw (filter-append (λ (row : BoxRow). not (uid == row.uid.0)) front back, filter-lacks uid front lacks) refl
@@ -128,7 +128,7 @@ found-at low next uid (r ∷ rows) (suc place) row h lt e u =
     let there : (get_or rows place row).uid.0 ≡ uid = ap (λ (x : BoxRow). x.uid.0) (sym e) ∙ u in
     rw (neq-eqb r.uid.0 uid (λ same. omega (arith, above, there, same))) (found-at (r.uid.0 + 1) next uid rows place row h.1 within e u)
 
-pub changed-at : (low next uid : ℕ) (change : RowChange) (rows : List BoxRow) (place : ℕ) (row : BoxRow) → UidsRise low (map row_of rows) next → place < length rows → row ≡ get_or rows place row → row.uid.0 ≡ uid → slice_set rows place (row_with change row) ≡ map (changed uid change) rows
+pub changed-at : (low next uid : ℕ) (change : RowChange) (rows : List BoxRow) (place : ℕ) (row : BoxRow) → UidsRise low (map row_of rows) next → place < length rows → row ≡ get_or rows place row → row.uid.0 ≡ uid → slice_set rows place (row_with change row) ≡ map (changed_row uid change) rows
 changed-at low next uid change [] place row h lt e u = absurd (omega (arith, lt))
 changed-at low next uid change (r ∷ rows) zero row h lt e u =
     let here : uid ≡ r.uid.0 = sym u ∙ ap (λ (x : BoxRow). x.uid.0) e in

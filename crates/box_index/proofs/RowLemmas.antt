@@ -6,16 +6,16 @@ use Rattle.model_meaning.specs.BoxMeaning.{LogRow, row_changed, row_removed}
 use Rattle.mdbox_base.specs.declared.ids.Uid.{Uid}
 use Rattle.mdbox_base.specs.declared.entries.BoxEntry.{BoxEntry}
 use Rattle.mdbox_base.specs.declared.entries.BoxEntry.TheVariants as entry
-use Rattle.box_index.specs.Row.{row_of, row_with, changed, UidsRise}
+use Rattle.box_index.specs.Row.{row_of, row_with, changed_row, UidsRise}
 use Rattle.box_index.specs.declared.index.BoxRow.{BoxRow}
 use Rattle.box_index.specs.declared.index.RowChange.{RowChange}
 use Rattle.box_index.specs.declared.index.RowChange.TheVariants as change
 
 -- a row with this UID, and one with another
-pub changed-same : (uid : ℕ) (how : RowChange) (row : BoxRow) → uid ≡ row.uid.0 → changed uid how row ≡ row_with how row
+pub changed-same : (uid : ℕ) (how : RowChange) (row : BoxRow) → uid ≡ row.uid.0 → changed_row uid how row ≡ row_with how row
 changed-same uid how row e = rw e (rw (eq-eqb row.uid.0 row.uid.0 refl) refl)
 
-pub changed-other : (uid : ℕ) (how : RowChange) (row : BoxRow) → (uid ≡ row.uid.0 → ⊥) → changed uid how row ≡ row
+pub changed-other : (uid : ℕ) (how : RowChange) (row : BoxRow) → (uid ≡ row.uid.0 → ⊥) → changed_row uid how row ≡ row
 changed-other uid how row ne = grind (arith, nat_tests)
 
 pub map-append : {X Y : Type 0} → (f : X → Y) (xs : List X) (y : X) → map f (xs ++ y ∷ []) ≡ map f xs ++ f y ∷ []
@@ -35,11 +35,11 @@ abbrev pub change_entry : Uid → RowChange → BoxEntry
 change_entry uid (change.Flags flags) = entry.F uid flags
 change_entry uid (change.Words words) = entry.K uid words
 
-changed-row : (uid : Uid) (how : RowChange) (row : BoxRow) → row_of (changed uid.0 how row) ≡ row_changed (change_entry uid how) (row_of row)
+changed-row : (uid : Uid) (how : RowChange) (row : BoxRow) → row_of (changed_row uid.0 how row) ≡ row_changed (change_entry uid how) (row_of row)
 changed-row uid (change.Flags flags) row = elim (uid.0 == row.uid.0) as (λ (b : Bool). row_of (cond b (record row { flags = flags }) row) ≡ cond b (record (row_of row) { flags = flags }) (row_of row)) [ true ↦ refl | false ↦ refl ]
 changed-row uid (change.Words words) row = elim (uid.0 == row.uid.0) as (λ (b : Bool). row_of (cond b (record row { words = words }) row) ≡ cond b (record (row_of row) { words = words }) (row_of row)) [ true ↦ refl | false ↦ refl ]
 
-pub changed-rows : (uid : Uid) (how : RowChange) (rows : List BoxRow) → map row_of (map (changed uid.0 how) rows) ≡ map (row_changed (change_entry uid how)) (map row_of rows)
+pub changed-rows : (uid : Uid) (how : RowChange) (rows : List BoxRow) → map row_of (map (changed_row uid.0 how) rows) ≡ map (row_changed (change_entry uid how)) (map row_of rows)
 changed-rows uid how [] = refl
 changed-rows uid how (row ∷ rows) = rw (changed-row uid how row, changed-rows uid how rows) refl
 

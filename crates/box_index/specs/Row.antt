@@ -15,8 +15,8 @@ row_with (change.Flags flags) row = record row { flags = flags }
 row_with (change.Words words) row = record row { words = words }
 
 -- a row as it is changed, where it has this UID
-abbrev pub changed : ℕ → RowChange → BoxRow → BoxRow
-changed uid change row = if uid == row.uid.0 then row_with change row else row
+abbrev pub changed_row : ℕ → RowChange → BoxRow → BoxRow
+changed_row uid change row = if uid == row.uid.0 then row_with change row else row
 
 -- The rows' UIDs rise strictly from the first number on, and lie below the second.
 abbrev pub UidsRise : ℕ → List LogRow → ℕ → Type 0

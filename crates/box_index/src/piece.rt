@@ -2,7 +2,7 @@
 ghost use Rattle.std.specs.Prelude.{◌≡◌, ◌<◌, ◌≤◌, ◌+◌, ◌-◌, ◌↔◌, ◌++◌, ◌∷◌, [], ◌==◌, IsTrue, IsNone, IsErr, IfSome, OnOk, OnErr, false, length, map, filter, find, not, slice_get};
 ghost use Rattle.std.specs.List.{HoldsAt};
 ghost use Rattle.std.specs.Option.{option_copied};
-ghost use Rattle.box_index.specs.Row.{changed};
+ghost use Rattle.box_index.specs.Row.{changed_row};
 ghost use Rattle.box_index.specs.Pieces.{AreRising, LacksUid, begins_by};
 
 use crate::index::{BoxRow, RowChange};
@@ -102,7 +102,7 @@ impl Piece {
     /// Changes the row with this UID.
     pub(crate) fn change(&mut self, uid: Uid, change: RowChange)
         requires { AreRising self.old.rows }
-        ensures { self.new ≡ record self.old { rows = map (changed uid.0 change) self.old.rows } }
+        ensures { self.new ≡ record self.old { rows = map (changed_row uid.0 change) self.old.rows } }
     {
         if let Some(place) = place_in(&self.rows, uid) {
             self.rows[place].change(change);

@@ -1,7 +1,7 @@
 // The rows of a mailbox, in pieces.
 ghost use Rattle.std.specs.Prelude.{◌≡◌, ◌<◌, ◌≤◌, ◌+◌, ◌-◌, ◌++◌, ◌∷◌, [], ◌==◌, IsTrue, IsNone, IsErr, IfSome, OnOk, OnErr, false, length, map, filter, find, not, slice_get};
 ghost use Rattle.std.specs.Option.{option_copied};
-ghost use Rattle.box_index.specs.Row.{changed};
+ghost use Rattle.box_index.specs.Row.{changed_row};
 ghost use Rattle.box_index.specs.Pieces.{rows_in, AreFilled, AreRising, LacksUid, IsOnlyIn};
 
 use crate::index::{BoxRow, RowChange};
@@ -90,7 +90,7 @@ impl Pieces {
     /// Changes the row with this UID.
     pub(crate) fn change(&mut self, uid: Uid, change: RowChange)
         requires { AreRising self.old.rows }
-        ensures { self.new ≡ record self.old { rows = map (changed uid.0 change) self.old.rows } }
+        ensures { self.new ≡ record self.old { rows = map (changed_row uid.0 change) self.old.rows } }
     {
         if self.last.begins_by(uid) {
             self.last.change(uid, change);

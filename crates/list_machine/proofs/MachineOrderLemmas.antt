@@ -6,6 +6,8 @@ use Rattle.std.proofs.lemmas.Grind.{common_steps}
 use Rattle.std.proofs.lemmas.List.Elements.{All-nil, All-cons, All-head, All-tail, All-weaker, All-push}
 use Rattle.std.proofs.lemmas.List.Kept.{AllPairs-cons}
 use Rattle.std.proofs.lemmas.Slice.Eq.{bytes_eq-Decides}
+use Rattle.mdbox_base.proofs.KeywordLemmas.{no_words}
+use Rattle.mdbox_base.specs.Keywords.{AreWords}
 use Rattle.mdbox_base.specs.Words.{IsName}
 use Rattle.mdbox_base.specs.declared.requests.Request.{Request}
 use Rattle.mdbox_base.specs.declared.requests.Request.TheVariants as request
@@ -96,6 +98,7 @@ record IsContentInRange (message : ListedMessage) : Type 0 where
   time : message.time < 2 ^ 64
   guid : length message.guid ≡ 16
   size : length message.octets ≤ 67108864
+  words : AreWords message.words
 
 added_in_order : (mailbox : Mailbox) (message : ListedMessage) → mailbox.next_uid ≤ 4294967294 → IsContentInRange message → IsMailboxInOrder mailbox → IsMailboxInOrder (add_last message mailbox)
 added_in_order mailbox message le f o =
@@ -277,7 +280,7 @@ delivered_well run event old new name time octets given own w f e d =
     let room = (or_none (refusal_at run old (NextUid name)) None e2).0 in
     subst AreWellFormed (sym d.new_is)
     (added_well old name (record { uid = given; flags = 0; time = time; guid = own; octets = octets; words = [] }) d.mailbox d.target_is (next_fits run old name d.mailbox d.target_is room)
-    (record { flags = omega arith; time = f.0; guid = d.guid_length; size = f.1 }) w)
+    (record { flags = omega arith; time = f.0; guid = d.guid_length; size = f.1; words = no_words }) w)
 
 made_well : (run : Run) (event : RunEvent) (old new : Lists) (name : List ℕ) → AreWellFormed old → IsName name → first_refusal run old (IsNewName name ∷ RoomForMailbox ∷ []) ≡ None → IsMade run event old name new → AreWellFormed new
 made_well run event old new name w is_name e m =

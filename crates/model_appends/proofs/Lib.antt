@@ -13,4 +13,3 @@ pub mod ChangedLogsLemmas
 pub mod Common
 pub mod DeletedMailboxLemmas
 pub mod HeldLogLemmas
-pub mod KeywordLemmas

@@ -7,6 +7,7 @@ use Rattle.std.proofs.lemmas.List.Elements.{All-head, All-tail, All-weaker}
 use Rattle.mdbox_base.specs.Keywords.{AreWords}
 use Rattle.mdbox_base.specs.declared.entries.BoxEntry.{BoxEntry}
 use Rattle.mdbox_base.specs.declared.entries.BoxEntry.TheVariants as box
+use Rattle.model_logs.proofs.EntryLemmas.{words_in_range}
 use Rattle.model_logs.specs.Entries.{BoxInRange}
 use Rattle.model_meaning.proofs.AppliedLemmas.{rows_by_added, rows_by_next}
 use Rattle.model_meaning.proofs.BoxLemmas.{box_more}
@@ -14,7 +15,6 @@ use Rattle.model_meaning.proofs.MapPlaceLemmas.{equal_is}
 use Rattle.model_meaning.specs.BoxMeaning.{LogRow, BoxMeaning, box_meaning, box_applied, AllBoxFit}
 use Rattle.model_meaning.specs.Sound.{IsSoundRow, IsSoundBox}
 use Rattle.model_octets.proofs.PairLemmas.{pairs_head, pairs_tail}
-use Rattle.model_appends.proofs.KeywordLemmas.{words_fit}
 use Rattle.model_rewritten.specs.Rewriting.{row_entry, next_from, box_snapshot, IsRewrittenBox}
 
 abbrev Rises : LogRow → LogRow → Type 0
@@ -79,7 +79,7 @@ leads before rows next last (row ∷ rest) m le some fits above rising sound roo
             (low, omega (arith, below, fits), flags, size, omega (arith, room), here.words),
         r.fit,
       );
-      in_range = ((omega (arith, below, fits), omega (arith, flags), here.time, omega (arith, size), map_uid, here.guid, words_fit row.words here.words), r.in_range);
+      in_range = ((omega (arith, below, fits), omega (arith, flags), here.time, omega (arith, size), map_uid, here.guid, words_in_range row.words here.words), r.in_range);
     }
 
 few_ends : (t : Bool) (next : ℕ) → length (end_with t next) ≤ 1

@@ -14,6 +14,7 @@ use Rattle.model_logs.specs.LogFile.{EntryFits, head_octets, IsLog}
 use Rattle.model_meaning.specs.MapFits.{AllMapFit}
 use Rattle.model_meaning.specs.MapMeaning.{MapRecord, MapMeaning, map_meaning, count_of}
 use Rattle.model_meaning.specs.MeaningExamples.{example_guid}
+use Rattle.model_meaning.proofs.WordLemmas.{no_words}
 use Rattle.model_storage.specs.Metadata.{IsMetadata}
 use Rattle.model_storage.specs.References.{ReferenceFits, references_text, AreReferences}
 use Rattle.model_storage.specs.StorageFile.{IsMessage}

@@ -20,6 +20,7 @@ use Rattle.model_mime.specs.Parts.{parts_in, part_of, found_in}
 use Rattle.model_attach.specs.Detached.{AreDetached}
 use Rattle.model_logs.specs.LogExamples.{example_store, root_log, box_log, map_log, root_is_log, box_is_log, map_is_log}
 use Rattle.model_meaning.specs.MeaningExamples.{example_guid, example_added, example_map}
+use Rattle.model_meaning.proofs.WordLemmas.{no_words}
 use Rattle.model_store.specs.Stands.{HasRoot, HasMap, HasBox, HasInstances, HoldsMessage, StoresMessage, StoredOnce, KeepsDetached, StandsBy, NamesOwn}
 use Rattle.model_store.proofs.StandsLemmas.{kept_same}
 use Rattle.model_store.specs.Safe.{LiesInFile, IsThereWhole, Safe}

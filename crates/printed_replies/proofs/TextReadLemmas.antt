@@ -140,8 +140,8 @@ before_end p q v w x y h k e =
 
 keywords_read : (v w : List (List ℕ)) (x y : List ℕ) → AllByRecursion IsKeyword v → AllByRecursion IsKeyword w → keywords_text v ++ 10 ∷ x ≡ keywords_text w ++ 10 ∷ y → (v ≡ w) × (x ≡ y)
 keywords_read [] [] x y p q e = (refl, ap (drop 1) e)
-keywords_read [] (b ∷ w) x y p q e = absurd (let m : 10 ≡ 32 = cc e in omega (arith, m))
-keywords_read (a ∷ v) [] x y p q e = absurd (let m : 32 ≡ 10 = cc e in omega (arith, m))
+keywords_read [] (b ∷ w) x y p q e = absurd (let m : 10 ≡ 32 = ap (λ (l : List ℕ). slice_index l 0) e in omega (arith, m))
+keywords_read (a ∷ v) [] x y p q e = absurd (let m : 32 ≡ 10 = ap (λ (l : List ℕ). slice_index l 0) e in omega (arith, m))
 keywords_read (a ∷ v) (b ∷ w) x y p q e =
     let f = ap (drop 1) (sym (by_mark (a ∷ v) x) ∙ e ∙ by_mark (b ∷ w) y) in
     let r = before_end a b v w x y (visible_keyword a p.0) (visible_keyword b q.0) f in

@@ -15,11 +15,16 @@ fn known_uid(uid: Uid)
     ensures { uid.0 < 2 ^ 64 }
 {}
 
+fn known_numbers(size: u32, time: u64)
+    ensures { (size < 2 ^ 64) × (time < 2 ^ 64) }
+{}
+
 fn known_row(row: &ListRow)
     ensures { RowHasWords row.now }
 {
-    let _uid = row.uid;
-    let _numbers = [row.size as u64, row.time];
+    known_uid(row.uid);
+    let _flags = row.flags.bits();
+    known_numbers(row.size, row.time);
     known_octets(&row.guid.0);
     let _words = row.words.as_slice();
 }

@@ -4,7 +4,7 @@ use Rattle.std.proofs.Common.{sym, ◌∙◌, ap, subst, append_assoc, append-ni
 use Rattle.std.proofs.lemmas.Grind.{flat_map-append}
 use Rattle.std.proofs.lemmas.List.{take-append-drop, take_all, take_more}
 use Rattle.mdbox_base.specs.Numbers.{decimal_text}
-use Rattle.request_text.specs.ReplyText.{numbers_text, ok_line}
+use Rattle.request_text.specs.ReplyText.{keywords_text, numbers_text, ok_line}
 use Rattle.piece_writer.specs.Pieces.{Gathers, WritesPrefix}
 use Rattle.piece_writer.proofs.PieceLemmas.{cut_before, cut_more, passed_more, passed_kept}
 
@@ -25,6 +25,17 @@ number_added ns before old mid new n i l is o m w =
     ∙ ap (λ (t : List ℕ). t ++ decimal_text n) (m ∙ ap (λ (t : List ℕ). t ++ 32 ∷ []) o)
     ∙ joined before (numbers_text (take i ns)) (32 ∷ []) (decimal_text n)
     ∙ ap (λ (t : List ℕ). before ++ t) (ap (λ (t : List ℕ). numbers_text (take i ns) ++ t) (sym last) ∙ sym (numbers_split (take i ns) (n ∷ [])) ∙ ap numbers_text (sym cut))
+
+-- one keyword more
+pub keyword_added : (words : List (List ℕ)) (before old mid new word : List ℕ) (i : ℕ) → i < length words → word ≡ get_or words i word → old ≡ before ++ keywords_text (take i words) → mid ≡ old ++ 32 ∷ [] → new ≡ mid ++ word
+    → new ≡ before ++ keywords_text (take (i + 1) words)
+keyword_added words before old mid new word i l is o m w =
+    let cut : take (i + 1) words ≡ take i words ++ word ∷ [] = take_more words i word l ∙ ap (λ (x : List ℕ). take i words ++ x ∷ []) (sym is) in
+    let last : keywords_text (word ∷ []) ≡ 32 ∷ word = append-nil (32 ∷ word) in
+    w
+    ∙ ap (λ (t : List ℕ). t ++ word) (m ∙ ap (λ (t : List ℕ). t ++ 32 ∷ []) o)
+    ∙ joined before (keywords_text (take i words)) (32 ∷ []) word
+    ∙ ap (λ (t : List ℕ). before ++ t) (ap (λ (t : List ℕ). keywords_text (take i words) ++ t) (sym last) ∙ sym (flat_map-append (λ (one : List ℕ). 32 ∷ one) (take i words) (word ∷ [])) ∙ ap keywords_text (sym cut))
 
 -- a text that was added to the piece, and the piece then given where it was full
 pub pushed_passed : (h k : Option (List ℕ)) (p q r t : List ℕ) → q ≡ p ++ t → Gathers h q [] k r → Gathers h p t k r

@@ -62,8 +62,8 @@ deliver BOX saves the message that it reads from standard input, of at most 6710
             NO 14 mailbox full 1000000, or NO 16 store full 4294967294
 list BOX    lists a mailbox of the store in the current folder: prints OK and the number of messages, then a
             line for each: its UID, its flags (the sum of 1 answered, 2 flagged, 4 deleted, 8 seen, 16 draft),
-            its size in octets, the time it was received (Unix seconds) and its GUID; or prints
-            NO 10 no mailbox
+            its size in octets, the time it was received (Unix seconds), its GUID and its keywords; or
+            prints NO 10 no mailbox
 fetch BOX UID
             prints the octets of the message with this UID and nothing else; or prints NO 10 no mailbox,
             NO 12 no message, NO 18 read fault, or NO 20 damaged with the storage file and the offset of the message

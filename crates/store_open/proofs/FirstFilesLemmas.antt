@@ -179,7 +179,7 @@ text-log : (head : LogHead) (entries : List (List ℕ)) → HeadFits head → Al
 text-log head entries f e = record { head_fits = f; entries_fit = e; gate = 0; behind = []; spelled = refl; ends = inr refl }
 
 map-fits : (store : List ℕ) → HeadFits (inbox_head store) → HeadFits (new_map_head store)
-map-fits store f = record { store = f.store; octets = f.octets; number = lit< tt; generation = lit< tt }
+map-fits store f = record { version = refl; store = f.store; octets = f.octets; number = lit< tt; generation = lit< tt }
 
 first-fits : All EntryFits (map_text first_box ∷ [])
 first-fits = All-cons EntryFits (map_text first_box) [] (record { some = lit≤ tt; short = lit< tt }) (All-nil EntryFits)
@@ -228,7 +228,7 @@ made-new store disk m f = record {
 }
   where
     root-fits : (store : List ℕ) → HeadFits (inbox_head store) → HeadFits (new_root_head store)
-    root-fits store f = record { store = f.store; octets = f.octets; number = lit< tt; generation = lit< tt }
+    root-fits store f = record { version = refl; store = f.store; octets = f.octets; number = lit< tt; generation = lit< tt }
 
     root-entry-fits : All EntryFits (root_text first_root ∷ [])
     root-entry-fits = All-cons EntryFits (root_text first_root) [] (record { some = lit≤ tt; short = lit< tt }) (All-nil EntryFits)

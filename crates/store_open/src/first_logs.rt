@@ -3,7 +3,7 @@ ghost use Rattle.std.specs.Prelude.{◌≡◌, ◌≤◌, ◌+◌, ◌∷◌, []
 ghost use Rattle.disk_model.specs.Disk.{IfTold, EachImage, OthersStay, IsIdle};
 ghost use Rattle.disk_model.specs.FaultCounts.{NoFault, ChangeFaultCounted, AnyFaultCounted};
 ghost use Rattle.disk_model.specs.declared.name.FileName.TheVariants as file;
-ghost use Rattle.model_logs.specs.LogFile.{EntryFits};
+ghost use Rattle.model_logs.specs.LogFile.{EntryFits, IsVersionOf};
 ghost use Rattle.model_logs.specs.Entries.{map_text, root_text};
 ghost use Rattle.model_store.specs.Stands.{head_of};
 ghost use Rattle.model_store.specs.Opening.{first_root, first_box, empty_inbox};
@@ -106,7 +106,8 @@ fn make_logs<D: Disk>(
 }
 
 fn head_of(store: StoreId, kind: LogKind, number: u32, generation: u32) -> LogHead
-    ensures { result ≡ head_of store.0 kind number generation }
+    ensures head { result ≡ head_of store.0 kind number generation }
+    ensures version { IsVersionOf result.kind result.version }
 {
     LogHead {
         version: kind.version(),
@@ -124,6 +125,7 @@ fn make_empty_log<D: Disk>(
     name: FileName,
     head: LogHead,
 ) -> Result<GateLog, DiskFault>
+    requires version { IsVersionOf head.kind head.version }
     ensures any_moment { EachImage (λ _ image. IfTold (D.history disk.old) (λ before. IsAtMostAsLong 26 (before name) (image name)) × OthersStay name (D.history disk.old) image) (D.history disk.old) (D.history disk.new) }
     ensures made { IfOk result (λ log. Holds log [] (D.history disk.new)) }
     ensures log { IfOk result (λ log. log ≡ record { name = name; head = head; end = 25; room = 0 }) }
@@ -142,6 +144,7 @@ fn make_log<D: Disk>(
     head: LogHead,
     entry: &[u8],
 ) -> Result<GateLog, OpenError>
+    requires version { IsVersionOf head.kind head.version }
     requires some { 1 ≤ length entry.now }
     requires short { length entry.now ≤ 300 }
     // At every moment of the call each image has in this file no more octets than it could have before, or than 26; or it has the log without the entry, or with it.

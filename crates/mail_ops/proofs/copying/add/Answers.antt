@@ -9,18 +9,19 @@ use Rattle.mail_ops.proofs.copying.add.Goals as goal
 pub append_box-requires-clause-fits : goal.append_box-requires-clause-fits
 append_box-requires-clause-fits g c =
     let at = c.in_ok-row.ensures.found in
-    (at.m, at.to.numbered, (omega (arith, at.next_is), at.some, (let f = c.bits.ensures.flags in omega (arith, f)), (row_sound _ c.args.store.now c.args.name.now c.args.uid.0 at.source (row_of c.in_ok-row.field-0.row) c.facts.ensures.store at.from).size, at.few))
+    let sound = row_sound _ c.args.store.now c.args.name.now c.args.uid.0 at.source (row_of c.in_ok-row.field-0.row.now) c.facts.ensures.store at.from in
+    (at.m, at.to.numbered, (omega (arith, at.next_is), at.some, (let f = c.bits.ensures.flags in omega (arith, f)), sound.size, at.few, subst AreWords (sym c.in_ok-words.ensures.ok) sound.words))
 
 pub append_box-requires-clause-record : goal.append_box-requires-clause-record
 append_box-requires-clause-record g c =
     let at = c.in_ok-row.ensures.found in
-    let k = record_of_row _ c.args.store.now c.args.name.now c.args.uid.0 at.source (row_of c.in_ok-row.field-0.row) c.facts.ensures.store at.from in
+    let k = record_of_row _ c.args.store.now c.args.name.now c.args.uid.0 at.source (row_of c.in_ok-row.field-0.row.now) c.facts.ensures.store at.from in
     All-cons (HasItsRecord c.args.store.now.map) _ [] (k.entry, k.found, k.guid_is) (All-nil (HasItsRecord c.args.store.now.map))
 
 pub returns-in-Ok-clause-added : goal.returns-in-Ok-clause-added
 returns-in-Ok-clause-added g c =
     let at = c.in_ok-row.ensures.found in
-    let row = row_of c.in_ok-row.field-0.row in
+    let row = row_of c.in_ok-row.field-0.row.now in
     let same = from_source c.args.name.now at.source c.args.source.0 at.source c.args.store.now at.from.box.number_is (c.in_ok-row.ensures.source ∙ ap Some c.if-now-began.false) refl in
     let o = c.in-Ok.ensures in
     record {
@@ -29,7 +30,7 @@ returns-in-Ok-clause-added g c =
       at = at;
       source_is = same;
       holds = held_row c.args.store.now c.args.name.now c.args.uid.0 at.source c.args.source.0 c.args.held.0 row c.requires.keeps at.from same;
-      took = subst (λ (f : ℕ). BoxTook c.in_ok-row.field-0.target.0 (box_entry.A c.in_ok-row.field-0.next f row.time row.size (record { 0 = row.map_uid }) (record { 0 = row.guid }) row.words) c.args.store.now c.append_box.new.self (g.D.Disk.history c.args.store.now.disk) (g.D.Disk.history c.append_box.new.self.disk) (g.D.Disk.faults c.args.store.now.disk) (g.D.Disk.faults c.append_box.new.self.disk)) c.bits.ensures.same (record {
+      took = subst (λ (f : ℕ). BoxTook c.in_ok-row.field-0.target.0 (box_entry.A c.in_ok-row.field-0.next f row.time row.size (record { 0 = row.map_uid }) (record { 0 = row.guid }) w) c.args.store.now c.append_box.new.self (g.D.Disk.history c.args.store.now.disk) (g.D.Disk.history c.append_box.new.self.disk) (g.D.Disk.faults c.args.store.now.disk) (g.D.Disk.faults c.append_box.new.self.disk)) c.bits.ensures.same (record {
         appends = record {
           moments = o.any_moment;
           map = ap (λ v. v.map) o.same;
@@ -56,7 +57,7 @@ returns-in-Ok-clause-added g c =
 pub returns-in-Err-Stopped-clause-refused : goal.returns-in-Err-Stopped-clause-refused
 returns-in-Err-Stopped-clause-refused g c =
     let at = c.in_ok-row.ensures.found in
-    let row = row_of c.in_ok-row.field-0.row in
+    let row = row_of c.in_ok-row.field-0.row.now in
     let same = from_source c.args.name.now at.source c.args.source.0 at.source c.args.store.now at.from.box.number_is (c.in_ok-row.ensures.source ∙ ap Some c.if-now-began.false) refl in
     let o = c.in-Err-Stopped.ensures in
     record {
@@ -66,7 +67,7 @@ returns-in-Err-Stopped-clause-refused g c =
       at = at;
       source_is = same;
       holds = held_row c.args.store.now c.args.name.now c.args.uid.0 at.source c.args.source.0 c.args.held.0 row c.requires.keeps at.from same;
-      fell = subst (λ (f : ℕ). BoxFell c.in_ok-row.field-0.target.0 (box_entry.A c.in_ok-row.field-0.next f row.time row.size (record { 0 = row.map_uid }) (record { 0 = row.guid }) row.words) c.args.store.now c.append_box.new.self (g.D.Disk.history c.args.store.now.disk) (g.D.Disk.history c.append_box.new.self.disk) (g.D.Disk.faults c.args.store.now.disk) (g.D.Disk.faults c.append_box.new.self.disk)) c.bits.ensures.same (record {
+      fell = subst (λ (f : ℕ). BoxFell c.in_ok-row.field-0.target.0 (box_entry.A c.in_ok-row.field-0.next f row.time row.size (record { 0 = row.map_uid }) (record { 0 = row.guid }) w) c.args.store.now c.append_box.new.self (g.D.Disk.history c.args.store.now.disk) (g.D.Disk.history c.append_box.new.self.disk) (g.D.Disk.faults c.args.store.now.disk) (g.D.Disk.faults c.append_box.new.self.disk)) c.bits.ensures.same (record {
         appends = record {
           moments = o.any_moment;
           map = ap (λ v. v.map) o.same;

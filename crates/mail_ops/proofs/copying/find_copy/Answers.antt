@@ -5,9 +5,9 @@ use Rattle.mail_ops.proofs.CopyCallLemmas.{no_room_refuses}
 use Rattle.mail_ops.proofs.copying.find_copy.Goals as goal
 
 pub returns-in-Err-clause-refused : goal.returns-in-Err-clause-refused
-returns-in-Err-clause-refused g c = no_room_refuses c.args.name.now c.args.uid.0 c.args.target.now c.args.store.now c.in-Some.from.now.meaning c.in-Some-list_of.to.now.meaning (row_of c.in-Some-find.row) c.in-Err.why
+returns-in-Err-clause-refused g c = no_room_refuses c.args.name.now c.args.uid.0 c.args.target.now c.args.store.now c.in-Some.from.now.meaning c.in-Some-list_of.to.now.meaning (row_of c.in-Some-find.row.now) c.in-Err.why
     (sym c.list_of.ensures ∙ ap (λ o. option_map (λ (i : BoxState). i.meaning) (option_copied o)) c.in-Some.is) (sym c.list_of-2.ensures ∙ ap (λ o. option_map (λ (i : BoxState). i.meaning) (option_copied o)) c.in-Some-list_of.is)
-    (sym c.find.ensures ∙ ap (option_map row_of) c.in-Some-find.is) (subst (λ r. IfErr r (λ w. room_refusal c.in-Some-list_of.to.now.meaning ≡ Some w)) c.in-Err.is c.next_of.ensures.refused)
+    (sym c.find.ensures ∙ ap (λ o. option_map row_of (option_copied o)) c.in-Some-find.is) (subst (λ r. IfErr r (λ w. room_refusal c.in-Some-list_of.to.now.meaning ≡ Some w)) c.in-Err.is c.next_of.ensures.refused)
 
 pub returns-clause-source : goal.returns-clause-source
 returns-clause-source g c = c.in-Some-number_of.ensures.some.1
@@ -22,7 +22,7 @@ returns-clause-found g c =
       from = record {
         m = c.in-Some.from.now.meaning;
         box = record { named = source; numbered = c.in-Some-number_of.ensures.some.0 ∙ source; number_is = c.in-Some-number_of.ensures.some.1 };
-        listed = sym c.find.ensures ∙ ap (option_map row_of) c.in-Some-find.is;
+        listed = sym c.find.ensures ∙ ap (λ o. option_map row_of (option_copied o)) c.in-Some-find.is;
       };
       m = c.in-Some-list_of.to.now.meaning;
       to = record { named = target; numbered = c.in-Some-number_of-2.ensures.some.0 ∙ target; number_is = c.in-Some-number_of-2.ensures.some.1 };

@@ -4,23 +4,23 @@ use Rattle.mail_ops.proofs.MessageLemmas.{from_source}
 use Rattle.mail_ops.proofs.copying.raise.Goals as goal
 
 pub append_map-requires-clause-fits : goal.append_map-requires-clause-fits
-append_map-requires-clause-fits g c = raise_fits _ c.args.store.now c.args.name.now c.args.uid.0 c.in_ok-at.ensures.found.source (row_of c.in_ok-at.at.row) c.facts.ensures.store c.in_ok-at.ensures.found.from (omega (arith, c.count_of.ensures, c.if-count_of-ge-MOST_COPIES.false))
+append_map-requires-clause-fits g c = raise_fits _ c.args.store.now c.args.name.now c.args.uid.0 c.in_ok-row.ensures.found.source (row_of c.in_ok-row.field-0.row.now) c.facts.ensures.store c.in_ok-row.ensures.found.from (omega (arith, c.count_of.ensures, c.if-count_of-ge-MOST_COPIES.false))
 
 pub returns-in-Ok-clause-raised : goal.returns-in-Ok-clause-raised
 returns-in-Ok-clause-raised g c =
     let o = c.in-Ok.ensures in
-    let at = c.in_ok-at.ensures.found in
+    let at = c.in_ok-row.ensures.found in
     let holds = ap (λ u. u.0) c.in_ok-held.ensures in
-    let same = from_source c.args.name.now at.source c.in_ok-at.at.source.0 at.source c.args.store.now at.from.box.number_is c.in_ok-at.ensures.source refl in
+    let same = from_source c.args.name.now at.source c.in_ok-row.field-0.source.0 at.source c.args.store.now at.from.box.number_is c.in_ok-row.ensures.source refl in
     record {
-      row = row_of c.in_ok-at.at.row;
-      number = c.in_ok-at.at.target.0;
-      next = c.in_ok-at.at.next.0;
+      row = row_of c.in_ok-row.field-0.row.now;
+      number = c.in_ok-row.field-0.target.0;
+      next = c.in_ok-row.field-0.next.0;
       at = at;
       source_is = same;
       holds = holds;
       few = omega (arith, c.count_of.ensures, c.if-count_of-ge-MOST_COPIES.false);
-      keeps = subst (λ (n : ℕ). KeepsUid n c.args.uid.0 c.in_ok-held.held.0 c.args.store.now) same (keeps_row _ c.args.store.now c.args.name.now c.args.uid.0 at.source c.in_ok-held.held.0 (row_of c.in_ok-at.at.row) c.facts.ensures.store at.from holds);
+      keeps = subst (λ (n : ℕ). KeepsUid n c.args.uid.0 c.in_ok-held.held.0 c.args.store.now) same (keeps_row _ c.args.store.now c.args.name.now c.args.uid.0 at.source c.in_ok-held.held.0 (row_of c.in_ok-row.field-0.row.now) c.facts.ensures.store at.from holds);
       took = record {
         appends = record {
           moments = λ lists s. o.any_moment lists tt tt s;
@@ -37,7 +37,7 @@ returns-in-Ok-clause-raised g c =
         };
         runs = not_true _ (λ e. ok_is_none _ (o.stopped.1 e));
         settled = λ lists s. o.settled lists tt tt s;
-        fits = rw c.in_ok-held.ensures (raise_fits _ c.args.store.now c.args.name.now c.args.uid.0 at.source (row_of c.in_ok-at.at.row) c.facts.ensures.store at.from (omega (arith, c.count_of.ensures, c.if-count_of-ge-MOST_COPIES.false)));
+        fits = rw c.in_ok-held.ensures (raise_fits _ c.args.store.now c.args.name.now c.args.uid.0 at.source (row_of c.in_ok-row.field-0.row.now) c.facts.ensures.store at.from (omega (arith, c.count_of.ensures, c.if-count_of-ge-MOST_COPIES.false)));
         taken = rw c.in_ok-held.ensures o.taken;
         further = o.further;
         due = rw c.in_ok-held.ensures o.due;

@@ -1,5 +1,6 @@
-use Rattle.mail_ops.proofs.Common.{◌≡◌, map, row_of, listed_row}
+use Rattle.mail_ops.proofs.Common.{◌≡◌, map}
+use Rattle.mail_ops.proofs.RowLemmas.{row_shown}
 use Rattle.mail_ops.proofs.listing.rows_of.Given as goal
 
 abbrev pub invariant-loop-row : goal.invariant-loop-row
-invariant-loop-row l = l.rows.items ≡ map listed_row (map row_of l.yielded)
+invariant-loop-row l = l.rows.items ≡ map row_shown l.yielded
