@@ -20,13 +20,15 @@ pub record Added (entry : BoxEntry) (number : ℕ) : Type 0 where
   pub size : ℕ
   pub map_uid : MapUid
   pub guid : Guid
-  pub is : entry ≡ box.A uid flags time size map_uid guid
+  pub words : List (List ℕ)
+  pub is : entry ≡ box.A uid flags time size map_uid guid words
   pub same : uid.0 ≡ number
 
 pub added : (entry : BoxEntry) (number : ℕ) → added_uid entry ≡ Some number → Added entry number
-added (box.A u f t s m g) number e = record { uid = u; flags = f; time = t; size = s; map_uid = m; guid = g; is = refl; same = (let h : u.0 ≡ number = cc e in h) }
+added (box.A u f t s m g w) number e = record { uid = u; flags = f; time = t; size = s; map_uid = m; guid = g; words = w; is = refl; same = (let h : u.0 ≡ number = cc e in h) }
 added (box.N n) number e = absurd (cc e)
 added (box.F u f) number e = absurd (cc e)
+added (box.K u w) number e = absurd (cc e)
 added (box.R u) number e = absurd (cc e)
 
 -- a later row has the UID of the one that was made
@@ -45,13 +47,14 @@ abbrev pub HasAdded : List BoxEntry → LogRow → Type 0
 HasAdded entries row = (k : ℕ) × (entry : BoxEntry) × (slice_get entries k ≡ Some entry) × (added_uid entry ≡ Some row.uid)
 
 first_added : (e : BoxEntry) (es : List BoxEntry) → All (HasAdded (e ∷ es)) (flat_map (row_behind row_rules es) (row_made e))
-first_added (box.A u f t s m g) es =
-    let row : LogRow = record { uid = u.0; flags = f; time = t; size = s; map_uid = m.0; guid = g.0 } in
-    All-append (HasAdded (box.A u f t s m g ∷ es)) (row_behind row_rules es row) []
-    (All-weaker (λ (r : LogRow). r.uid ≡ u.0) (HasAdded (box.A u f t s m g ∷ es)) (λ r h. (0, box.A u f t s m g, refl, ap Some (sym h))) _ (behind_uid es row))
-    (All-nil (HasAdded (box.A u f t s m g ∷ es)))
+first_added (box.A u f t s m g w) es =
+    let row : LogRow = record { uid = u.0; flags = f; time = t; size = s; map_uid = m.0; guid = g.0; words = w } in
+    All-append (HasAdded (box.A u f t s m g w ∷ es)) (row_behind row_rules es row) []
+    (All-weaker (λ (r : LogRow). r.uid ≡ u.0) (HasAdded (box.A u f t s m g w ∷ es)) (λ r h. (0, box.A u f t s m g w, refl, ap Some (sym h))) _ (behind_uid es row))
+    (All-nil (HasAdded (box.A u f t s m g w ∷ es)))
 first_added (box.N n) es = All-nil (HasAdded (box.N n ∷ es))
 first_added (box.F u f) es = All-nil (HasAdded (box.F u f ∷ es))
+first_added (box.K u w) es = All-nil (HasAdded (box.K u w ∷ es))
 first_added (box.R u) es = All-nil (HasAdded (box.R u ∷ es))
 
 -- each row was added

@@ -47,7 +47,7 @@ dangling_at : (m : MapMeaning) (b : BoxMeaning) (texts : List (List ℕ)) (k pla
     → texts ≡ map box_text entries → AreBoxEntries entries → b ≡ box_meaning entries → IsDangling m entries place
 dangling_at m b texts k place text entries at adds is texts_are good means =
     let e = entry_at box_text entries texts k text texts_are at in
-    let same : adds.entry ≡ e.0 = box_one adds.entry e.0 adds.is.in_range (in_range entries k e.0 good e.1) (sym adds.is.text ∙ e.2) in
+    let same : adds.entry ≡ e.0 = box_one 2 adds.entry e.0 adds.is.in_range (in_range entries k e.0 good e.1) (sym adds.is.text ∙ e.2) in
     let a : Added e.0 adds.uid = added e.0 adds.uid (subst (λ (x : BoxEntry). added_uid x ≡ Some adds.uid) same adds.added) in
     let held = found_holds (λ (r : LogRow). r.uid == adds.uid) b.rows adds.lacks.row (Contains b.rows) adds.lacks.found (All-contains_itself b.rows) in
     record {
@@ -58,6 +58,7 @@ dangling_at m b texts k place text entries at adds is texts_are good means =
       size = a.size;
       map_uid = a.map_uid;
       guid = a.guid;
+      words = a.words;
       behind = drop (k + 1) entries;
       split = split_at entries k e.0 e.1 ∙ ap (λ (x : BoxEntry). take k entries ++ x ∷ drop (k + 1) entries) a.is;
       row = adds.lacks.row;
@@ -82,7 +83,7 @@ split_place (y ∷ before) behind x = split_place before behind x
 none_before : (m : MapMeaning) (b : BoxMeaning) (texts : List (List ℕ)) (k other : ℕ) (entries : List BoxEntry) → All (AddsNoDangling m b) (take k texts)
     → texts ≡ map box_text entries → AreBoxEntries entries → b ≡ box_meaning entries → (bare : IsDangling m entries other) → length bare.before < k → ⊥
 none_before m b texts k other entries none texts_are good means bare lt =
-    let entry : BoxEntry = box.A bare.uid bare.flags bare.time bare.size bare.map_uid bare.guid in
+    let entry : BoxEntry = box.A bare.uid bare.flags bare.time bare.size bare.map_uid bare.guid bare.words in
     let at : slice_get entries (length bare.before) ≡ Some entry = ap (λ (es : List BoxEntry). slice_get es (length bare.before)) bare.split ∙ split_place bare.before bare.behind entry in
     let has = before_place (AddsNoDangling m b) texts k (length bare.before) (box_text entry) (text_at box_text entries texts (length bare.before) entry texts_are at) lt none in
     let found : row_at b bare.uid.0 ≡ Some bare.row =

@@ -36,7 +36,7 @@ root_refused text none before entry is good = none entry (record { text = is; in
 
 -- ---- a mailbox log
 
-pub box_taken : (old new : BoxMeaning) (texts : List (List ℕ)) (one : List ℕ) (entry : BoxEntry) → IsBoxText one entry → BoxFits old entry → new ≡ box_applied entry old → IsBoxReplay old texts → IsBoxReplay new (texts ++ one ∷ [])
+pub box_taken : (old new : BoxMeaning) (texts : List (List ℕ)) (one : List ℕ) (entry : BoxEntry) → IsBoxText 2 one entry → BoxFits old entry → new ≡ box_applied entry old → IsBoxReplay old texts → IsBoxReplay new (texts ++ one ∷ [])
 box_taken old new texts one entry is fits e f = record {
   entries = f.entries ++ entry ∷ [];
   texts_are = more_texts box_text texts f.entries one entry f.texts_are is.text;
@@ -44,13 +44,13 @@ box_taken old new texts one entry is fits e f = record {
   meaning = e ∙ ap (box_applied entry) f.meaning ∙ sym (box_more f.entries entry);
 }
 
-pub box_no_entry : (m : BoxMeaning) (text : List ℕ) → ((other : BoxEntry) → IsBoxText text other → ⊥) → RefusesBox m text
+pub box_no_entry : (m : BoxMeaning) (text : List ℕ) → ((other : BoxEntry) → IsBoxText 2 text other → ⊥) → RefusesBox m text
 box_no_entry m text none before entry _ is good = none entry (record { text = is; in_range = (each_of BoxInRange before [] entry good.0).1 })
 
-pub box_misfit : (m : BoxMeaning) (text : List ℕ) (one : BoxEntry) → IsBoxText text one → (BoxFits m one → ⊥) → RefusesBox m text
+pub box_misfit : (m : BoxMeaning) (text : List ℕ) (one : BoxEntry) → IsBoxText 2 text one → (BoxFits m one → ⊥) → RefusesBox m text
 box_misfit m text one has misfit before entry means is good =
     let range : BoxInRange entry = (each_of BoxInRange before [] entry good.0).1 in
-    let same : entry ≡ one = box_one entry one range has.in_range (sym is ∙ has.text) in
+    let same : entry ≡ one = box_one 2 entry one range has.in_range (sym is ∙ has.text) in
     let fits : BoxFits (box_meaning before) entry = (box_fit_of [] before [] entry good.1).1 in
     misfit (subst (λ (e : BoxEntry). BoxFits m e) same (subst (λ (k : BoxMeaning). BoxFits k entry) (sym means) fits))
 

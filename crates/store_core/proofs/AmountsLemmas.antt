@@ -1,6 +1,7 @@
 -- The amounts of a mailbox: how often it lists each record, counted over the map uids in rising order.
 use Rattle.store_core.proofs.Common.{◌≡◌, ◌≢◌, ◌<◌, ◌≤◌, ◌+◌, ◌-◌, ◌==◌, ℕ, Bool, true, false, cond, if◌then◌else◌, suc, zero, List, [], ◌∷◌, ◌++◌, length, map, find, take, slice_index_or, slice_set, in_rows, count_by, Option, Some, None, All, AllPairs, option_map_or, refl, sym, ◌∙◌, ap, subst, arith}
 use Rattle.store_core.proofs.Common.{BoxRow, LogRow, row_of, All-nil, All-cons, All-head, All-tail, sum_by-cons, cond-true, cond-false, cases_eq, eq-eqb, inl, inr, ne_eqb, equal_is, length-map, pairs_head, pairs_tail}
+use Rattle.std.specs.Borrow.{Bor}
 use Rattle.std.specs.List.Sorted.{IsNonDecreasing, IsPermutation, IsStrictlyIncreasing}
 use Rattle.std.proofs.lemmas.List.Sorted.{length_permutation, sum_by-IsPermutation}
 use Rattle.std.proofs.lemmas.List.{get_or-map, take_all}
@@ -207,12 +208,12 @@ counting_ends uids i amounts all c = record {
 
 -- ---- the map uids of a mailbox
 
-pub uids_listed : (yielded items : List BoxRow) (rows : List LogRow) → map (λ row. row) yielded ≡ items → map row_of items ≡ rows → map (λ (row : BoxRow). row.map_uid.0) yielded ≡ map (λ row. row.map_uid) rows
+pub uids_listed : (yielded : List (Bor BoxRow)) (items : List BoxRow) (rows : List LogRow) → map (λ row. row.now) yielded ≡ items → map row_of items ≡ rows → map (λ (row : Bor BoxRow). row.now.map_uid.0) yielded ≡ map (λ row. row.map_uid) rows
 uids_listed yielded items rows walked are = by_items yielded ∙ ap (map (λ (row : LogRow). row.map_uid)) (ap (map row_of) walked ∙ are)
   where
-    by_items : (ys : List BoxRow) → map (λ (row : BoxRow). row.map_uid.0) ys ≡ map (λ (row : LogRow). row.map_uid) (map row_of (map (λ row. row) ys))
+    by_items : (ys : List (Bor BoxRow)) → map (λ (row : Bor BoxRow). row.now.map_uid.0) ys ≡ map (λ (row : LogRow). row.map_uid) (map row_of (map (λ row. row.now) ys))
     by_items [] = refl
-    by_items (y ∷ ys) = ap (λ (us : List ℕ). y.map_uid.0 ∷ us) (by_items ys)
+    by_items (y ∷ ys) = ap (λ (us : List ℕ). y.now.map_uid.0 ∷ us) (by_items ys)
 
 pub sorted_are : (uids sorted : List ℕ) (amounts : List MapCount) → IsPermutation uids sorted → AreAmountsOf sorted amounts → AreAmountsOf uids amounts
 sorted_are uids sorted amounts same a = record {

@@ -115,7 +115,7 @@ runs_more old new id entries logs generation root_log map_log boxes k d x e belo
     record {
       opens = subst (λ (n : ℕ). IfTold new (λ now. Opens (files_of now) id entries (logs_by n e m.boxes logs))) (sym p.number)
           (opens_more old new id entries logs p.box p.log b.log x.log e r.opens p.there in_range (subst (λ (n : ℕ). FitsIn n e m.boxes logs) p.number fits) made
-          (subst (λ (n : ℕ). All (IsCounted (logs_by n e m.boxes logs)) m.records) p.number counts) p.name same.log.name same.log.head others p.reads (added (map box_text p.log) p.reads));
+          (subst (λ (n : ℕ). All (IsCounted (logs_by n e m.boxes logs)) m.records) p.number counts) p.name same.name same.head others p.reads (added (map box_text p.log) p.reads));
       root = root_stays b.log.name id generation old new others (λ q. absurd (let w : file.Root ≡ file.Box b.number.0 p.box.generation = q ∙ name in cc w)) r.root;
       root_entries = r.root_entries;
       root_log_reads = reads_other b.log.name root_log r.root_entries old new others (λ q. absurd (let w : file.Root ≡ file.Box b.number.0 p.box.generation = sym root_name ∙ q ∙ name in cc w)) r.root_log_reads;

@@ -112,10 +112,10 @@ settled_there (Some old) (Some new) v k b x number e p own same others hold list
     let now : IsLogHeld x.log (a.texts ++ box_text e ∷ []) new.now = hold a.texts a.held in
     subst (λ (n : ℕ). IsSettled new.now (lists_by n octets e lists)) a.number_is
     (settled_by_box_append old.now new.now lists a.box octets e s own a.append (λ other apart. others other (λ q. apart (q ∙ a.name)))
-    (subst (λ (n : FileName). HasOneMore (box_text e) (reading (old.now n)) (reading (new.now n))) a.name (disk_more b.log x.log a.texts (box_text e) old.now new.now same.log.name same.log.head a.held.reads now.reads))
+    (subst (λ (n : FileName). HasOneMore (box_text e) (reading (old.now n)) (reading (new.now n))) a.name (disk_more b.log x.log a.texts (box_text e) old.now new.now same.name same.head a.held.reads now.reads))
     (λ left may.
-    let there : MayLeave (new.now x.log.name) left = subst (λ (n : FileName). MayLeave (new.now n) left) (sym (same.log.name ∙ a.name)) may in
-    (now.keeps.leaves left).0 there ∙ sym now.keeps.reads ∙ ap (λ (n : FileName). reading (new.now n)) (same.log.name ∙ a.name)))
+    let there : MayLeave (new.now x.log.name) left = subst (λ (n : FileName). MayLeave (new.now n) left) (sym (same.name ∙ a.name)) may in
+    (now.keeps.leaves left).0 there ∙ sym now.keeps.reads ∙ ap (λ (n : FileName). reading (new.now n)) (same.name ∙ a.name)))
 
 -- where nothing was done
 pub leaves_none : (old : Option History) (lists later : Lists) → IsSettledFor lists old → Leaves lists later old old

@@ -141,7 +141,8 @@ pub dues_are : (m : BoxMeaning) (e : BoxEntry) (rows : List MapRecord) (ns : Lis
     → dues_by (due_change_of m e) rows ns ≡ map (λ row. due_by_box m e (λ uid. number_beside uid rows ns) row.uid) rows
 dues_are m (entry.N n) rows ns rising each = numbers_are (λ uid. number_beside uid rows ns) rows ns (at_own_place rows ns rising each)
 dues_are m (entry.F u f) rows ns rising each = numbers_are (λ uid. number_beside uid rows ns) rows ns (at_own_place rows ns rising each)
-dues_are m (entry.A u f t z k g) rows ns rising each = changed_are k.0 (λ n. n - 1) (lowers k) (λ uid. number_beside uid rows ns) rows ns (is_lower k) rising (at_own_place rows ns rising each)
+dues_are m (entry.K u w) rows ns rising each = numbers_are (λ uid. number_beside uid rows ns) rows ns (at_own_place rows ns rising each)
+dues_are m (entry.A u f t z k g w) rows ns rising each = changed_are k.0 (λ n. n - 1) (lowers k) (λ uid. number_beside uid rows ns) rows ns (is_lower k) rising (at_own_place rows ns rising each)
 dues_are m (entry.R u) rows ns rising each = by_found (row_at m u.0) refl
   where
     by_found : (o : Option LogRow) → row_at m u.0 ≡ o
@@ -154,7 +155,8 @@ pub due_is : (m : BoxMeaning) (e : BoxEntry) (rows : List MapRecord) (ns : List 
     → number_beside uid rows (dues_by (due_change_of m e) rows ns) ≡ due_by_box m e (λ uid. number_beside uid rows ns) uid
 due_is m (entry.N n) rows ns uid each there = refl
 due_is m (entry.F u f) rows ns uid each there = refl
-due_is m (entry.A u f t z k g) rows ns uid each there = changed_beside k.0 (λ n. n - 1) (lowers k) uid rows ns (is_lower k) each (λ none. omega arith)
+due_is m (entry.K u w) rows ns uid each there = refl
+due_is m (entry.A u f t z k g w) rows ns uid each there = changed_beside k.0 (λ n. n - 1) (lowers k) uid rows ns (is_lower k) each (λ none. omega arith)
 due_is m (entry.R u) rows ns uid each there = by_found (row_at m u.0) (λ k e. there k e)
   where
     by_found : (o : Option LogRow) → ((k : MapUid) → option_map_or (λ row. change.Rises (record { 0 = row.map_uid })) o change.Stays ≡ change.Rises k → find (λ row. row.uid == k.0) rows ≡ None → ⊥)

@@ -10,6 +10,7 @@ pub mod DeletingLemmas
 pub mod DueChangeLemmas
 pub mod DueLemmas
 pub mod EntryFileLemmas
+pub mod EntryLengthLemmas
 pub mod EntryRoomLemmas
 pub mod HighestFileLemmas
 pub mod HolderLemmas

@@ -78,7 +78,7 @@ pub box_logs_set : (store : List ℕ) (k : ℕ) (d x : OpenBox) (mailboxes : Lis
 box_logs_set store k d x [] [] a below s = absurd (omega (arith, below))
 box_logs_set store k d x [] (b ∷ bs) a below s = absurd a
 box_logs_set store k d x (m ∷ ms) [] a below s = absurd a
-box_logs_set store zero d x (m ∷ ms) (b ∷ bs) a below s = (ap (λ (n : _). n.0) s.number ∙ a.0, s.log.name ∙ a.1, s.log.head ∙ a.2, a.3)
+box_logs_set store zero d x (m ∷ ms) (b ∷ bs) a below s = (ap (λ (n : _). n.0) s.number ∙ a.0, s.name ∙ a.1, s.head ∙ a.2, a.3)
 box_logs_set store (suc k) d x (m ∷ ms) (b ∷ bs) a below s = (a.0, a.1, a.2, box_logs_set store k d x ms bs a.3 (omega (arith, below)) s)
 
 pub above_first : (store : List ℕ) (k : ℕ) (d : OpenBox) (m : MapBox) (ms : List MapBox) (bs : List OpenBox) → All (Rising m) ms → AreBoxLogs store ms bs → k < length bs → m.number < (slice_index_or bs k d).number.0
@@ -147,13 +147,13 @@ reads_set store (suc k) d x e g (m ∷ ms) (b ∷ bs) (l ∷ ls) old new rising 
 
 -- ---- room
 
-pub rooms_set : (n k : ℕ) (d x : OpenBox) (boxes : List OpenBox) → k < length boxes → All (λ (b : OpenBox). n ≤ b.log.room) boxes → x.log.room ≡ (slice_index_or boxes k d).log.room → All (λ (b : OpenBox). n ≤ b.log.room) (slice_set boxes k x)
-rooms_set n k d x [] below all same = absurd (omega (arith, below))
-rooms_set n zero d x (b ∷ bs) below all same =
+pub rooms_set : (n k : ℕ) (d x : OpenBox) (boxes : List OpenBox) → k < length boxes → All (λ (b : OpenBox). n ≤ b.log.room) boxes → (slice_index_or boxes k d).log.room ≤ x.log.room → All (λ (b : OpenBox). n ≤ b.log.room) (slice_set boxes k x)
+rooms_set n k d x [] below all more = absurd (omega (arith, below))
+rooms_set n zero d x (b ∷ bs) below all more =
     let h : n ≤ b.log.room = All-head (λ (o : OpenBox). n ≤ o.log.room) b bs all in
-    All-cons (λ (o : OpenBox). n ≤ o.log.room) x bs (omega (arith, h, same)) (All-tail (λ (o : OpenBox). n ≤ o.log.room) b bs all)
-rooms_set n (suc k) d x (b ∷ bs) below all same =
-    All-cons (λ (o : OpenBox). n ≤ o.log.room) b (slice_set bs k x) (All-head (λ (o : OpenBox). n ≤ o.log.room) b bs all) (rooms_set n k d x bs (omega (arith, below)) (All-tail (λ (o : OpenBox). n ≤ o.log.room) b bs all) same)
+    All-cons (λ (o : OpenBox). n ≤ o.log.room) x bs (omega (arith, h, more)) (All-tail (λ (o : OpenBox). n ≤ o.log.room) b bs all)
+rooms_set n (suc k) d x (b ∷ bs) below all more =
+    All-cons (λ (o : OpenBox). n ≤ o.log.room) b (slice_set bs k x) (All-head (λ (o : OpenBox). n ≤ o.log.room) b bs all) (rooms_set n k d x bs (omega (arith, below)) (All-tail (λ (o : OpenBox). n ≤ o.log.room) b bs all) more)
 
 pub room_at : (n k : ℕ) (d : OpenBox) (boxes : List OpenBox) → k < length boxes → All (λ (b : OpenBox). n ≤ b.log.room) boxes → n ≤ (slice_index_or boxes k d).log.room
 room_at n k d [] below all = absurd (omega (arith, below))

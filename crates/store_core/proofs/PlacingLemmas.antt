@@ -10,7 +10,7 @@ use Rattle.model_meaning.proofs.BoxSoundLemmas.{box_sound}
 use Rattle.model_store.specs.Opening.{AreBoxEntries}
 use Rattle.model_appends.specs.Amounts.{more_due, HoldsAdded}
 use Rattle.model_appends.proofs.AmountLemmas.{listed_removed, listed_added, listed_next}
-use Rattle.model_appends.proofs.AppendOpenLemmas.{listed_flagged, meanings_more}
+use Rattle.model_appends.proofs.AppendOpenLemmas.{listed_flagged, listed_worded, meanings_more}
 use Rattle.store_core.specs.Append.{FitsBox}
 use Rattle.store_core.specs.declared.due.DueChange.{DueChange}
 use Rattle.store_core.specs.declared.due.DueChange.TheVariants as change
@@ -92,10 +92,10 @@ read_there h v k b number e p = let q = own_box h v k b number e p in (map box_t
 pub room_there : {D : Type 0} → (h : Option History) (v : StoreValue D) (k : ℕ) (b : OpenBox) (number : ℕ) (e : BoxEntry) → Placed h v k b number e → HasEntryRoom v → entry_room ≤ b.log.room
 room_there h v k b number e p room = subst (λ (y : OpenBox). entry_room ≤ y.log.room) (sym p.here) (room_at entry_room k p.default v.boxes p.below room.box_logs)
 
-pub room_stays : {D : Type 0} → (h : Option History) (v w : StoreValue D) (k : ℕ) (b x : OpenBox) (number : ℕ) (e : BoxEntry) → Placed h v k b number e → HasEntryRoom v → x.log.room ≡ b.log.room → w.map_log ≡ v.map_log → w.boxes ≡ slice_set v.boxes k x → HasEntryRoom w
-room_stays h v w k b x number e p room same map_log boxes = record {
+pub room_stays : {D : Type 0} → (h : Option History) (v w : StoreValue D) (k : ℕ) (b x : OpenBox) (number : ℕ) (e : BoxEntry) → Placed h v k b number e → HasEntryRoom v → b.log.room ≤ x.log.room → w.map_log ≡ v.map_log → w.boxes ≡ slice_set v.boxes k x → HasEntryRoom w
+room_stays h v w k b x number e p room more map_log boxes = record {
   map_log = subst (λ (l : _). entry_room ≤ l.room) (sym map_log) room.map_log;
-  box_logs = subst (λ (bs : List OpenBox). All (λ (o : OpenBox). entry_room ≤ o.log.room) bs) (sym boxes) (rooms_set entry_room k p.default x v.boxes p.below room.box_logs (same ∙ ap (λ (o : OpenBox). o.log.room) p.here));
+  box_logs = subst (λ (bs : List OpenBox). All (λ (o : OpenBox). entry_room ≤ o.log.room) bs) (sym boxes) (rooms_set entry_room k p.default x v.boxes p.below room.box_logs (subst (λ (o : OpenBox). o.log.room ≤ x.log.room) p.here more));
 }
 
 -- what the logs mean afterwards
@@ -110,7 +110,8 @@ taken_there h v k b x number e p index =
 removed_there : {D : Type 0} → (h : Option History) (v : StoreValue D) (k : ℕ) (b : OpenBox) (number : ℕ) (e : BoxEntry) → Placed h v k b number e → HasRemoved b.index.meaning e v.map.records
 removed_there h v k b number (entry.N n) p uid is none = absurd (cc (let c : change.Stays ≡ change.Rises uid = is in c))
 removed_there h v k b number (entry.F u f) p uid is none = absurd (cc (let c : change.Stays ≡ change.Rises uid = is in c))
-removed_there h v k b number (entry.A u f t z m g) p uid is none = absurd (cc (let c : change.Falls m ≡ change.Rises uid = is in c))
+removed_there h v k b number (entry.K u w) p uid is none = absurd (cc (let c : change.Stays ≡ change.Rises uid = is in c))
+removed_there h v k b number (entry.A u f t z m g w) p uid is none = absurd (cc (let c : change.Falls m ≡ change.Rises uid = is in c))
 removed_there h v k b number (entry.R u) p uid is none =
     let q = own_box h v k b number (entry.R u) p in
     let row : LogRow = p.fits.0 in
@@ -138,12 +139,13 @@ balance : (number : ℕ) (e : BoxEntry) (boxes : List MapBox) (logs : List (List
     → listed_of (logs_by number e boxes logs) uid + due_by_box (box_meaning log) e due uid ≡ listed_of logs uid + due uid
 balance number (entry.N n) boxes logs log due uid at rising fits held = ap (λ (k : ℕ). k + due uid) (listed_next number n boxes logs uid)
 balance number (entry.F u f) boxes logs log due uid at rising fits held = ap (λ (k : ℕ). k + due uid) (listed_flagged number u f boxes logs uid)
-balance number (entry.A u f t z k g) boxes logs log due uid at rising fits held = by_test (k.0 == uid) refl
+balance number (entry.K u w) boxes logs log due uid at rising fits held = ap (λ (k : ℕ). k + due uid) (listed_worded number u w boxes logs uid)
+balance number (entry.A u f t z k g w) boxes logs log due uid at rising fits held = by_test (k.0 == uid) refl
   where
-    more : listed_of (logs_by number (entry.A u f t z k g) boxes logs) uid ≡ listed_of logs uid + bit (k.0 == uid)
-    more = listed_added number u f t z k g boxes logs (box_meaning log) uid at
+    more : listed_of (logs_by number (entry.A u f t z k g w) boxes logs) uid ≡ listed_of logs uid + bit (k.0 == uid)
+    more = listed_added number u f t z k g w boxes logs (box_meaning log) uid at
 
-    by_test : (yes_no : Bool) → (k.0 == uid) ≡ yes_no → listed_of (logs_by number (entry.A u f t z k g) boxes logs) uid + (due uid - bit (has_map_uid uid (k ∷ []))) ≡ listed_of logs uid + due uid
+    by_test : (yes_no : Bool) → (k.0 == uid) ≡ yes_no → listed_of (logs_by number (entry.A u f t z k g w) boxes logs) uid + (due uid - bit (has_map_uid uid (k ∷ []))) ≡ listed_of logs uid + due uid
     by_test true is =
         let same : k.0 ≡ uid = equal_is k.0 uid is in
         let some : 1 ≤ due uid = subst (λ (n : ℕ). 1 ≤ due n) same held in

@@ -1,14 +1,13 @@
 // Appends to the log of a mailbox.
 ghost use Rattle.std.specs.Prelude.{◌≡◌, ◌≢◌, ◌+◌, ◌<◌, ◌≤◌, ◌∷◌, ◌++◌, [], ℕ, List, length, slice_get, Some, All, IfOk, IfSome, IfNone, MatchOption, OnOk, OnErr, IsErr, IsErrOf};
 ghost use Rattle.std.specs.Option.{option_map};
-ghost use Rattle.box_index.specs.Row.{IsAdded};
 ghost use Rattle.disk_model.specs.Disk.{EachImage, OthersStay, SameButFor, Grows};
 ghost use Rattle.disk_model.specs.FaultCounts.{NoFault, ChangeFaultCounted};
 ghost use Rattle.gate_log.specs.Log.{Reads, Holds};
 ghost use Rattle.gate_log.specs.State.{IsSameLog};
 ghost use Rattle.mdbox_base.specs.Keywords.{WantsMemory};
 ghost use Rattle.model_logs.specs.Entries.{box_text, BoxInRange};
-ghost use Rattle.model_meaning.specs.BoxMeaning.{BoxFits, box_applied};
+ghost use Rattle.model_meaning.specs.BoxMeaning.{BoxFits, box_applied, row_made};
 ghost use Rattle.store_core.specs.Append.{AddsText, IsSameBox};
 ghost use Rattle.store_core.specs.Value.{entry_room};
 ghost use Rattle.store_core.specs.declared.error.StepError.TheVariants as step_error;
@@ -73,7 +72,7 @@ fn take_memory(
     requires room { entry_room ≤ open_box.old.log.room }
     ensures entry { IfOk result (λ own. own ≡ entry.now) }
     ensures log { OnOk result (length (box_text entry.now) + 5 ≤ open_box.new.log.room) }
-    ensures index { OnOk result (IsAdded entry.now → 1 ≤ open_box.new.index.room) }
+    ensures index { OnOk result (row_made entry.now ≢ [] → 1 ≤ open_box.new.index.room) }
     ensures no_less { open_box.old.log.room ≤ open_box.new.log.room }
     ensures same { open_box.new ≡ record open_box.old { log = record open_box.old.log { room = open_box.new.log.room }; index = record open_box.old.index { room = open_box.new.index.room } } }
     ensures err { OnErr result (open_box.new ≡ open_box.old) }

@@ -39,7 +39,7 @@ invariant_of-self g c = (
   c.self.invariant.0,
   store_there _ _ _ _ c.in-Some.place c.index_mut.result.now c.append_in.new.open_box c.args.mailbox.0 c.args.entry.now _ (placed _ _ c.args.self.now c.deref.result.now c.in-Some.place c.index_mut.result.now c.args.mailbox.0 c.args.entry.now c.self.invariant.1 c.self.view_is c.deref.ensures.value c.requires.running c.requires.range c.requires.fits c.requires.held c.requires.record c.in-Some.ensures.some c.index_mut.ensures.value) c.in-Ok.ensures.same c.in-Ok.ensures.taken c.in-Ok.ensures.others c.in-Ok.ensures.added
       (dues_are_by c.self.inside.map.meaning.records c.self.inside.dues.items c.change_due.new.dues.items c.self.inside.boxes.items c.in-Some.place c.index.result.now c.index_mut.result.now c.args.entry.now c.due_change-how.result c.change_due.ensures c.due_change-how.ensures (place_below c.self.inside.boxes.items c.deref.result.now c.in-Some.place c.args.mailbox.0 c.deref.ensures.value c.in-Some.ensures.some) c.index.ensures c.index_mut.ensures.value),
-  room_stays _ _ _ c.in-Some.place c.index_mut.result.now c.append_in.new.open_box c.args.mailbox.0 c.args.entry.now (placed _ _ c.args.self.now c.deref.result.now c.in-Some.place c.index_mut.result.now c.args.mailbox.0 c.args.entry.now c.self.invariant.1 c.self.view_is c.deref.ensures.value c.requires.running c.requires.range c.requires.fits c.requires.held c.requires.record c.in-Some.ensures.some c.index_mut.ensures.value) c.self.invariant.2 c.in-Ok.ensures.same.log.room refl refl,
+  room_stays _ _ _ c.in-Some.place c.index_mut.result.now c.append_in.new.open_box c.args.mailbox.0 c.args.entry.now (placed _ _ c.args.self.now c.deref.result.now c.in-Some.place c.index_mut.result.now c.args.mailbox.0 c.args.entry.now c.self.invariant.1 c.self.view_is c.deref.ensures.value c.requires.running c.requires.range c.requires.fits c.requires.held c.requires.record c.in-Some.ensures.some c.index_mut.ensures.value) c.self.invariant.2 c.in-Ok.ensures.same.room refl refl,
   made_placed _ _ _ _ c.in-Some.place c.index_mut.result.now c.args.mailbox.0 c.args.entry.now (placed _ _ c.args.self.now c.deref.result.now c.in-Some.place c.index_mut.result.now c.args.mailbox.0 c.args.entry.now c.self.invariant.1 c.self.view_is c.deref.ensures.value c.requires.running c.requires.range c.requires.fits c.requires.held c.requires.record c.in-Some.ensures.some c.index_mut.ensures.value) refl refl refl refl refl c.in-Ok.ensures.others c.self.invariant.3,
   instances_boxed _ _ _ _ c.in-Some.place c.index_mut.result.now c.args.mailbox.0 c.args.entry.now (placed _ _ c.args.self.now c.deref.result.now c.in-Some.place c.index_mut.result.now c.args.mailbox.0 c.args.entry.now c.self.invariant.1 c.self.view_is c.deref.ensures.value c.requires.running c.requires.range c.requires.fits c.requires.held c.requires.record c.in-Some.ensures.some c.index_mut.ensures.value) c.self.invariant.4 c.in-Ok.ensures.others refl refl refl,
 )
@@ -48,7 +48,7 @@ pub invariant_of-self-in-Err-Stopped : goal.invariant_of-self-in-Err-Stopped
 invariant_of-self-in-Err-Stopped g c = (
   c.self.invariant.0,
   stopped_there _ _ _ _ c.in-Some.place c.index_mut.result.now c.append_in.new.open_box c.args.mailbox.0 c.args.entry.now (placed _ _ c.args.self.now c.deref.result.now c.in-Some.place c.index_mut.result.now c.args.mailbox.0 c.args.entry.now c.self.invariant.1 c.self.view_is c.deref.ensures.value c.requires.running c.requires.range c.requires.fits c.requires.held c.requires.record c.in-Some.ensures.some c.index_mut.ensures.value) c.in-Err-Stopped.ensures.same (c.in-Err-Stopped.ensures.untaken refl),
-  room_stays _ _ _ c.in-Some.place c.index_mut.result.now c.append_in.new.open_box c.args.mailbox.0 c.args.entry.now (placed _ _ c.args.self.now c.deref.result.now c.in-Some.place c.index_mut.result.now c.args.mailbox.0 c.args.entry.now c.self.invariant.1 c.self.view_is c.deref.ensures.value c.requires.running c.requires.range c.requires.fits c.requires.held c.requires.record c.in-Some.ensures.some c.index_mut.ensures.value) c.self.invariant.2 c.in-Err-Stopped.ensures.same.log.room refl refl,
+  room_stays _ _ _ c.in-Some.place c.index_mut.result.now c.append_in.new.open_box c.args.mailbox.0 c.args.entry.now (placed _ _ c.args.self.now c.deref.result.now c.in-Some.place c.index_mut.result.now c.args.mailbox.0 c.args.entry.now c.self.invariant.1 c.self.view_is c.deref.ensures.value c.requires.running c.requires.range c.requires.fits c.requires.held c.requires.record c.in-Some.ensures.some c.index_mut.ensures.value) c.self.invariant.2 c.in-Err-Stopped.ensures.same.room refl refl,
   made_stopped _ _ _ _ refl refl refl refl refl c.self.invariant.3,
   instances_stopped _ _ _ _ c.self.invariant.4 refl refl refl refl,
 )
