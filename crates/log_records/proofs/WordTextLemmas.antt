@@ -13,7 +13,7 @@ use Rattle.model_octets.proofs.PiecesLemmas.{split_same}
 use Rattle.model_octets.proofs.NumberLemmas.{front, behind, differ}
 use Rattle.model_logs.specs.Entries.{four, name_text, words_text, box_text, BoxInRange, IsBoxText}
 use Rattle.model_logs.proofs.EntryLemmas.{words_same}
-use Rattle.log_records.specs.Worded.{HasNoTexts, IsNotAdded, IsNotWorded, MayHaveWords}
+use Rattle.log_records.specs.Worded.{HasNoTexts, IsNoAddition, IsNotWorded, MayHaveWords}
 use Rattle.log_records.proofs.ListItemLemmas.{match_weaker, flat_one}
 
 -- one keyword more was read
@@ -83,7 +83,7 @@ added_size entry u f t s m g words e range =
 
 -- entries of a letter
 
-added_not : (version : ℕ) (text fields : List ℕ) (other : BoxEntry) → text ≡ 65 ∷ fields → IsNotAdded version fields → IsBoxText version text other → ⊥
+added_not : (version : ℕ) (text fields : List ℕ) (other : BoxEntry) → text ≡ 65 ∷ fields → IsNoAddition version fields → IsBoxText version text other → ⊥
 added_not version text fields (box.A u f t s m g words) e refused is =
     let r = is.in_range in
     let long : length (four u.0 ++ (f ∷ (to_be_bytes w64 t ++ (four s ++ (four m.0 ++ g.0))))) ≡ 37 = omega (arith, r.5) in
@@ -93,7 +93,7 @@ added_not version text fields (box.F u f) e refused is = differ 65 70 _ _ (sym e
 added_not version text fields (box.K u words) e refused is = differ 65 75 _ _ (sym e ∙ is.text) refl
 added_not version text fields (box.R u) e refused is = differ 65 82 _ _ (sym e ∙ is.text) refl
 
-added_or_not : (version : ℕ) (text fields : List ℕ) (found : Option BoxEntry) → text ≡ 65 ∷ fields → MatchOption found (IsNotAdded version fields) (IsBoxText version (65 ∷ fields)) → MatchOption found ((other : BoxEntry) → IsBoxText version text other → ⊥) (IsBoxText version text)
+added_or_not : (version : ℕ) (text fields : List ℕ) (found : Option BoxEntry) → text ≡ 65 ∷ fields → MatchOption found (IsNoAddition version fields) (IsBoxText version (65 ∷ fields)) → MatchOption found ((other : BoxEntry) → IsBoxText version text other → ⊥) (IsBoxText version text)
 added_or_not version text fields found e h =
     match_weaker found _ _ _ _ (λ refused other is. added_not version text fields other e refused is) (λ x is. record { text = e ∙ is.text; in_range = is.in_range }) h
 
@@ -110,7 +110,7 @@ worded_or_not version text fields found e h =
 
 -- what the fields give behind a letter
 
-pub added_read : (version : ℕ) (text fields : List ℕ) (read : Result (Option BoxEntry) NoMemory) → text ≡ 65 ∷ fields → IfOk read (λ found. MatchOption found (IsNotAdded version fields) (IsBoxText version (65 ∷ fields))) → (IsErr read → version ≡ 2)
+pub added_read : (version : ℕ) (text fields : List ℕ) (read : Result (Option BoxEntry) NoMemory) → text ≡ 65 ∷ fields → IfOk read (λ found. MatchOption found (IsNoAddition version fields) (IsBoxText version (65 ∷ fields))) → (IsErr read → version ≡ 2)
     → MatchResult read (λ found. MatchOption found ((other : BoxEntry) → IsBoxText version text other → ⊥) (IsBoxText version text)) (λ _. MayHaveWords version text)
 added_read version text fields (Ok found) e h memory = added_or_not version text fields found e h
 added_read version text fields (Err error) e h memory = (memory refl, fields, inl e)
