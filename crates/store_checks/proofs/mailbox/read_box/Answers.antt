@@ -13,8 +13,8 @@ use Rattle.store_checks.proofs.mailbox.read_box.Goals as goal
 pub returns-in_err-index-clause-idle : goal.returns-in_err-index-clause-idle
 returns-in_err-index-clause-idle g c = idle-begins _
 
-pub read_log-requires : goal.read_log-requires
-read_log-requires g c = record { entries = []; texts_are = refl; good = (tt, tt); meaning = ap (λ (index : BoxState). index.meaning) c.in_ok-index.ensures }
+pub read_log-requires-clause-replay : goal.read_log-requires-clause-replay
+read_log-requires-clause-replay g c = record { entries = []; texts_are = refl; good = (tt, tt); meaning = ap (λ (index : BoxState). index.meaning) c.in_ok-index.ensures }
 
 pub returns-in_err-log-clause-refused : goal.returns-in_err-log-clause-refused
 returns-in_err-log-clause-refused g c =

@@ -15,8 +15,8 @@ returns-then-not-is_number-clause-idle g c = idle-begins _
 pub returns-in_err-map-clause-idle : goal.returns-in_err-map-clause-idle
 returns-in_err-map-clause-idle g c = idle-begins _
 
-pub read_log-requires : goal.read_log-requires
-read_log-requires g c = empty_map c.args.id.0 c.in_ok-map.map.meaning (ap (λ (m : MapIndexValue). m.meaning) c.in_ok-map.ensures)
+pub read_log-requires-clause-replay : goal.read_log-requires-clause-replay
+read_log-requires-clause-replay g c = empty_map c.args.id.0 c.in_ok-map.map.meaning (ap (λ (m : MapIndexValue). m.meaning) c.in_ok-map.ensures)
 
 pub returns-in_err-log-clause-refused : goal.returns-in_err-log-clause-refused
 returns-in_err-log-clause-refused g c =
