@@ -34,7 +34,7 @@ same_beside f g (r ∷ rs) same = let a = same r.uid in let b = same_beside f g 
 -- ---- rows of a mailbox
 
 abbrev no_row : LogRow
-no_row = record { uid = 0; flags = 0; time = 0; size = 0; map_uid = 0; guid = [] }
+no_row = record { uid = 0; flags = 0; time = 0; size = 0; map_uid = 0; guid = []; words = [] }
 
 pub rows_none : (uid : ℕ) (rows : List LogRow) → in_rows uid (take 0 rows) ≡ 0
 rows_none uid [] = refl

@@ -16,7 +16,7 @@ one_each store (m ∷ ms) [] h = absurd h
 one_each store (m ∷ ms) (b ∷ bs) h = ap suc (one_each store ms bs h.3)
 
 abbrev no_row : LogRow
-no_row = record { uid = 0; flags = 0; time = 0; size = 0; map_uid = 0; guid = [] }
+no_row = record { uid = 0; flags = 0; time = 0; size = 0; map_uid = 0; guid = []; words = [] }
 
 pub count_none : (guid : List ℕ) (rows : List LogRow) → count_by (λ row. bytes_eq row.guid guid) (take 0 rows) ≡ 0
 count_none guid [] = refl

@@ -1,39 +1,26 @@
-use Rattle.std.proofs.Common.{rules, ◌≡◌, ◌≢◌, ◌+◌, ◌<◌, ◌≤◌, ◌∷◌, ◌++◌, [], ℕ, List, length, slice_get, Some, All, IfOk, IfSome, IfNone, MatchOption, OnOk, OnErr, IsErr, IsErrOf, ◌-◌, ◌*◌, ◌/◌, ◌%◌, Bool, true, false, nat_eq, nat_lt, slice_index_or, slice_set, bit_and, bit_or, Fits, w8, w32, w64, Bor, MutBor}
-use Rattle.std.specs.Option.{option_map}
-use Rattle.disk_model.specs.Disk.{EachImage, OthersStay, SameButFor, Grows}
-use Rattle.disk_model.specs.FaultCounts.{NoFault, ChangeFaultCounted}
-use Rattle.gate_log.specs.Log.{Reads, Holds}
-use Rattle.gate_log.specs.State.{IsSameLog}
-use Rattle.mdbox_base.specs.Keywords.{WantsMemory}
-use Rattle.model_logs.specs.Entries.{box_text, BoxInRange}
-use Rattle.model_meaning.specs.BoxMeaning.{BoxFits, box_applied, row_made}
-use Rattle.store_core.specs.Append.{AddsText, IsSameBox}
-use Rattle.store_core.specs.Value.{entry_room}
-use Rattle.store_core.specs.declared.error.StepError.TheVariants as step_error
+use Rattle.store_core.proofs.Common.{ap}
+use Rattle.store_core.proofs.EntryLengthLemmas.{entry_short}
+use Rattle.store_core.proofs.EntryRoomLemmas.{adds_roomier, others_roomier}
 use Rattle.store_core.proofs.append.append_in.Goals as goal
 
--- src/append.rt:116:15
 pub take_memory-requires-clause-short : goal.take_memory-requires-clause-short
-take_memory-requires-clause-short g c = ?
+take_memory-requires-clause-short g c = entry_short c.args.open_box.now.index.meaning c.args.entry.now c.requires.range c.requires.fits
 
--- src/append.rt:117:5
 pub append_text-requires-clause-short : goal.append_text-requires-clause-short
-append_text-requires-clause-short g c = ?
+append_text-requires-clause-short g c = entry_short c.args.open_box.now.index.meaning c.args.entry.now c.requires.range c.requires.fits
 
--- src/append.rt:117:5
-pub returns-in_err-append_text-clause-any_moment :
-    goal.returns-in_err-append_text-clause-any_moment
-returns-in_err-append_text-clause-any_moment g c = ?
+pub returns-in_err-append_text-clause-any_moment : goal.returns-in_err-append_text-clause-any_moment
+returns-in_err-append_text-clause-any_moment g c = λ memory.
+    adds_roomier c.args.open_box.now.log c.take_memory.new.open_box.log _ _ _ (ap (λ b. b.log) c.take_memory.ensures.same) c.append_text.ensures.any_moment
 
--- src/append.rt:117:5
-pub returns-in_err-append_text-clause-others_stay :
-    goal.returns-in_err-append_text-clause-others_stay
-returns-in_err-append_text-clause-others_stay g c = ?
+pub returns-in_err-append_text-clause-others_stay : goal.returns-in_err-append_text-clause-others_stay
+returns-in_err-append_text-clause-others_stay g c = λ memory.
+    others_roomier c.args.open_box.now.log c.take_memory.new.open_box.log _ _ (ap (λ b. b.log) c.take_memory.ensures.same) c.append_text.ensures.others_stay
 
--- src/append.rt:93:1
 pub returns-clause-any_moment : goal.returns-clause-any_moment
-returns-clause-any_moment g c = ?
+returns-clause-any_moment g c = λ memory.
+    adds_roomier c.args.open_box.now.log c.take_memory.new.open_box.log _ _ _ (ap (λ b. b.log) c.take_memory.ensures.same) c.append_text.ensures.any_moment
 
--- src/append.rt:93:1
 pub returns-clause-others_stay : goal.returns-clause-others_stay
-returns-clause-others_stay g c = ?
+returns-clause-others_stay g c = λ memory.
+    others_roomier c.args.open_box.now.log c.take_memory.new.open_box.log _ _ (ap (λ b. b.log) c.take_memory.ensures.same) c.append_text.ensures.others_stay
