@@ -49,14 +49,20 @@ pub(crate) fn count_up<D: Disk>(
 fn refused_in(replies: &[Option<Reply>]) -> u64
     ensures { result ≡ count_by is_no replies.now }
 {
-    replies.iter().filter(is_refusal).count() as u64
+    let mut refused = 0;
+    for answer in replies {
+        if is_refusal(answer) {
+            refused += 1;
+        }
+    }
+    refused
 }
 
 /// Whether a reply is NO.
-fn is_refusal(answer: &&Option<Reply>) -> bool
-    ensures { result ≡ is_no answer.now.now }
+fn is_refusal(answer: &Option<Reply>) -> bool
+    ensures { result ≡ is_no answer.now }
 {
-    matches!(**answer, Some(Reply::Refused(_)))
+    matches!(answer, Some(Reply::Refused(_)))
 }
 
 /// How many octets the messages have that the mailboxes list.
