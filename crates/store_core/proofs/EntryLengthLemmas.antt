@@ -1,6 +1,6 @@
 -- How long entries of mailbox logs are.
 use Rattle.store_core.proofs.Common.{◌≡◌, ◌≤◌, ◌<◌, ◌*◌, ◌+◌, ◌++◌, ◌∷◌, [], ℕ, List, length, length-append, arith, All, All-head, All-tail, flat_map, BoxEntry, BoxMeaning, box_text, BoxInRange}
-use Rattle.mdbox_base.specs.Keywords.{IsKeyword, AreWords, WantsMemory}
+use Rattle.mdbox_base.specs.Keywords.{IsKeyword, WantsMemory}
 use Rattle.mdbox_base.specs.declared.entries.BoxEntry.TheVariants as entry
 use Rattle.model_logs.specs.Entries.{name_text, words_text}
 use Rattle.model_meaning.specs.BoxMeaning.{BoxFits}
