@@ -33,7 +33,7 @@ use Rattle.script_run.specs.Opening.{LogsShowLists, RunBegins, RunHasCome}
 
 -- ---- the lists
 
--- the lists with a message that is saved: last in its mailbox, whose next UID it gets, and without flags
+-- the lists with a message that is saved: last in its mailbox, whose next UID it gets, without flags or keywords
 abbrev pub saved_lists : List ℕ → ℕ → List ℕ → Guid → Lists → Lists
 saved_lists name time octets guid lists = add_message name (record { uid = 0; flags = 0; time = time; guid = guid.0; octets = octets; words = [] }) lists
 
