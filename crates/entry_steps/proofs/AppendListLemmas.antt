@@ -129,10 +129,10 @@ removed_by lists name x octets uid well found =
     unchanged (x ∷ xs) = ap (λ (ys : List ListedMessage). x ∷ ys) (unchanged xs)
 
 -- a message that is added with the next UID
-pub added_by : (lists : Lists) (name : List ℕ) (x : Mailbox) (octets : List ℕ) (uid : Uid) (flags time size : ℕ) (map_uid : MapUid) (guid : Guid) → AreWellFormed lists → mailbox_named name lists ≡ Some x → uid.0 ≡ x.next_uid
+pub added_by : (lists : Lists) (name : List ℕ) (x : Mailbox) (octets : List ℕ) (uid : Uid) (flags time size : ℕ) (map_uid : MapUid) (guid : Guid) (words : List (List ℕ)) → AreWellFormed lists → mailbox_named name lists ≡ Some x → uid.0 ≡ x.next_uid
     → lists_by x.number octets (entry.A uid flags time size map_uid guid words) lists ≡ add_message name (record { uid = uid.0; flags = flags; time = time; guid = guid.0; octets = octets; words = words }) lists
 unfolding with_parts
-added_by lists name x octets uid flags time size map_uid guid well found next =
+added_by lists name x octets uid flags time size map_uid guid words well found next =
     change_named _ _ name x.number lists x well.numbers found refl
     (same_parts x _ _ _ _ (let e : max x.next_uid (uid.0 + 1) ≡ x.next_uid + 1 = omega (arith, next) in e)
     (only_adds x.messages _ ∙ ap (λ (n : ℕ). x.messages ++ record { uid = n; flags = flags; time = time; guid = guid.0; octets = octets; words = words } ∷ []) next))

@@ -1,6 +1,7 @@
 // Mailbox lists that follow a journal, a step at a time.
 use mdbox_base::{
-    BoxNo, Guid, Half, Name, NoMemory, Octets, Refusal, Reply, Request, Seq, Uid, flags_of, name_of,
+    BoxNo, Guid, Half, ListRow, Name, NoMemory, Octets, Refusal, Reply, Request, Seq, Uid,
+    flags_of, name_of,
 };
 use plain_lists::{PlainLists, PlainMailbox, PlainMessage};
 use std::alloc::Global;
@@ -277,6 +278,34 @@ impl Followed {
     }
 }
 
+/// Whether two listings are the same.
+fn are_same_rows(rows: &[ListRow], others: &[ListRow]) -> bool {
+    for (row, other) in rows.iter().zip(others.iter()) {
+        if !is_same_row(row, other) {
+            return false;
+        }
+    }
+    rows.len() == others.len()
+}
+
+fn is_same_row(row: &ListRow, other: &ListRow) -> bool {
+    row.uid == other.uid
+        && row.flags == other.flags
+        && row.size == other.size
+        && row.time == other.time
+        && row.guid == other.guid
+        && are_same_texts(row.words.as_slice(), other.words.as_slice())
+}
+
+fn are_same_texts(texts: &[Octets], others: &[Octets]) -> bool {
+    for (text, other) in texts.iter().zip(others.iter()) {
+        if text.as_slice() != other.as_slice() {
+            return false;
+        }
+    }
+    texts.len() == others.len()
+}
+
 /// How many octets a message has at the most.
 const MOST_OCTETS: usize = 67_108_864;
 
@@ -286,7 +315,7 @@ const MOST_OCTETS: usize = 67_108_864;
 pub fn is_answer(given: &Reply, wanted: &Reply, others: u64) -> bool {
     match (given, wanted) {
         (Reply::Saved { uid: a, guid: x }, Reply::Saved { uid: b, guid: y }) => a == b && x == y,
-        (Reply::Listed(a), Reply::Listed(b)) => a.as_slice() == b.as_slice(),
+        (Reply::Listed(a), Reply::Listed(b)) => are_same_rows(a.as_slice(), b.as_slice()),
         (Reply::Fetched(a), Reply::Fetched(b)) => a.as_slice() == b.as_slice(),
         (Reply::Done, Reply::Done) => true,
         (Reply::Copied { uid: a }, Reply::Copied { uid: b }) => a == b,

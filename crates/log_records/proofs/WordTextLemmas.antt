@@ -1,8 +1,9 @@
 -- Keywords, one behind another.
-use Rattle.std.proofs.Common.{◌≡◌, ◌≢◌, ◌==◌, ◌⊎◌, ℕ, suc, ◌+◌, ◌*◌, ◌<◌, ◌≤◌, ◌^◌, Bool, true, false, List, [], ◌∷◌, ◌++◌, length, take, refl, sym, ap, subst, ◌∙◌, append_assoc, append-nil, length-append, arith}
-use Rattle.std.specs.List.{flat_map, AllByRecursion}
-use Rattle.std.specs.Prelude.{Option, MatchOption}
+use Rattle.std.proofs.Common.{inl, inr, ◌≡◌, ℕ, zero, suc, get_or, ◌+◌, ◌<◌, ◌≤◌, List, [], ◌∷◌, ◌++◌, length, take, refl, sym, ap, subst, ◌∙◌, append_assoc, append-nil, length-append, arith}
+use Rattle.std.specs.List.{flat_map}
+use Rattle.std.specs.Prelude.{Option, MatchOption, Result, Ok, Err, IfOk, IsErr, MatchResult}
 use Rattle.std.specs.Int.{w64, to_be_bytes}
+use Rattle.mdbox_base.specs.declared.memory.NoMemory.{NoMemory}
 use Rattle.mdbox_base.specs.declared.ids.Guid.{Guid}
 use Rattle.mdbox_base.specs.declared.ids.Uid.{Uid}
 use Rattle.mdbox_base.specs.declared.ids.MapUid.{MapUid}
@@ -10,9 +11,9 @@ use Rattle.mdbox_base.specs.declared.entries.BoxEntry.{BoxEntry}
 use Rattle.mdbox_base.specs.declared.entries.BoxEntry.TheVariants as box
 use Rattle.model_octets.proofs.PiecesLemmas.{split_same}
 use Rattle.model_octets.proofs.NumberLemmas.{front, behind, differ}
-use Rattle.model_logs.specs.Entries.{four, name_text, words_text, added_words, text_in, box_text, InRangeIn, BoxInRange, WordsInRange, IsBoxText}
+use Rattle.model_logs.specs.Entries.{four, name_text, words_text, box_text, BoxInRange, IsBoxText}
 use Rattle.model_logs.proofs.EntryLemmas.{words_same}
-use Rattle.log_records.specs.Worded.{AreShort, HasNoTexts, HasNoWords, IsNotAdded, IsNotWorded}
+use Rattle.log_records.specs.Worded.{HasNoTexts, IsNoAddition, IsNotWorded, MayHaveWords}
 use Rattle.log_records.proofs.ListItemLemmas.{match_weaker, flat_one}
 
 -- one keyword more was read
@@ -62,6 +63,16 @@ nothing_whole (x ∷ text) e = absurd (omega (arith, e))
 
 -- sizes
 
+-- there is room for one keyword more, where there is for all
+pub flat_room : (words : List (List ℕ)) (i : ℕ) (none word : List ℕ) → i < length words → word ≡ get_or words i none → length (flat_map name_text (take i words)) + 1 + length word ≤ length (flat_map name_text words)
+flat_room [] i none word l e = absurd (omega (arith, l))
+flat_room (w ∷ words) zero none word l e =
+    let long : length word ≡ length w = ap length e in
+    omega (arith, long, length-append (name_text w) (flat_map name_text words))
+flat_room (w ∷ words) (suc i) none word l e =
+    let later : length (flat_map name_text (take i words)) + 1 + length word ≤ length (flat_map name_text words) = flat_room words i none word (omega (arith, l)) e in
+    omega (arith, later, length-append (name_text w) (flat_map name_text (take i words)), length-append (name_text w) (flat_map name_text words))
+
 pub text_size : (xs : List (List ℕ)) (x : List ℕ) → length (flat_map name_text (xs ++ x ∷ [])) ≡ length (flat_map name_text xs) + 1 + length x
 text_size xs x = ap length (flat_one name_text xs x) ∙ length-append (flat_map name_text xs) (name_text x) ∙ omega arith
 
@@ -72,7 +83,7 @@ added_size entry u f t s m g words e range =
 
 -- entries of a letter
 
-added_not : (version : ℕ) (text fields : List ℕ) (other : BoxEntry) → text ≡ 65 ∷ fields → IsNotAdded version fields → IsBoxText version text other → ⊥
+added_not : (version : ℕ) (text fields : List ℕ) (other : BoxEntry) → text ≡ 65 ∷ fields → IsNoAddition version fields → IsBoxText version text other → ⊥
 added_not version text fields (box.A u f t s m g words) e refused is =
     let r = is.in_range in
     let long : length (four u.0 ++ (f ∷ (to_be_bytes w64 t ++ (four s ++ (four m.0 ++ g.0))))) ≡ 37 = omega (arith, r.5) in
@@ -82,7 +93,7 @@ added_not version text fields (box.F u f) e refused is = differ 65 70 _ _ (sym e
 added_not version text fields (box.K u words) e refused is = differ 65 75 _ _ (sym e ∙ is.text) refl
 added_not version text fields (box.R u) e refused is = differ 65 82 _ _ (sym e ∙ is.text) refl
 
-pub added_or_not : (version : ℕ) (text fields : List ℕ) (found : Option BoxEntry) → text ≡ 65 ∷ fields → MatchOption found (IsNotAdded version fields) (IsBoxText version (65 ∷ fields)) → MatchOption found ((other : BoxEntry) → IsBoxText version text other → ⊥) (IsBoxText version text)
+added_or_not : (version : ℕ) (text fields : List ℕ) (found : Option BoxEntry) → text ≡ 65 ∷ fields → MatchOption found (IsNoAddition version fields) (IsBoxText version (65 ∷ fields)) → MatchOption found ((other : BoxEntry) → IsBoxText version text other → ⊥) (IsBoxText version text)
 added_or_not version text fields found e h =
     match_weaker found _ _ _ _ (λ refused other is. added_not version text fields other e refused is) (λ x is. record { text = e ∙ is.text; in_range = is.in_range }) h
 
@@ -93,6 +104,18 @@ worded_not version text fields (box.F u f) e refused is = differ 75 70 _ _ (sym 
 worded_not version text fields (box.A u f t s m g words) e refused is = differ 75 65 _ _ (sym e ∙ is.text) refl
 worded_not version text fields (box.R u) e refused is = differ 75 82 _ _ (sym e ∙ is.text) refl
 
-pub worded_or_not : (version : ℕ) (text fields : List ℕ) (found : Option BoxEntry) → text ≡ 75 ∷ fields → MatchOption found (IsNotWorded version fields) (IsBoxText version (75 ∷ fields)) → MatchOption found ((other : BoxEntry) → IsBoxText version text other → ⊥) (IsBoxText version text)
+worded_or_not : (version : ℕ) (text fields : List ℕ) (found : Option BoxEntry) → text ≡ 75 ∷ fields → MatchOption found (IsNotWorded version fields) (IsBoxText version (75 ∷ fields)) → MatchOption found ((other : BoxEntry) → IsBoxText version text other → ⊥) (IsBoxText version text)
 worded_or_not version text fields found e h =
     match_weaker found _ _ _ _ (λ refused other is. worded_not version text fields other e refused is) (λ x is. record { text = e ∙ is.text; in_range = is.in_range }) h
+
+-- what the fields give behind a letter
+
+pub added_read : (version : ℕ) (text fields : List ℕ) (read : Result (Option BoxEntry) NoMemory) → text ≡ 65 ∷ fields → IfOk read (λ found. MatchOption found (IsNoAddition version fields) (IsBoxText version (65 ∷ fields))) → (IsErr read → version ≡ 2)
+    → MatchResult read (λ found. MatchOption found ((other : BoxEntry) → IsBoxText version text other → ⊥) (IsBoxText version text)) (λ _. MayHaveWords version text)
+added_read version text fields (Ok found) e h memory = added_or_not version text fields found e h
+added_read version text fields (Err error) e h memory = (memory refl, fields, inl e)
+
+pub worded_read : (version : ℕ) (text fields : List ℕ) (read : Result (Option BoxEntry) NoMemory) → text ≡ 75 ∷ fields → IfOk read (λ found. MatchOption found (IsNotWorded version fields) (IsBoxText version (75 ∷ fields))) → (IsErr read → version ≡ 2)
+    → MatchResult read (λ found. MatchOption found ((other : BoxEntry) → IsBoxText version text other → ⊥) (IsBoxText version text)) (λ _. MayHaveWords version text)
+worded_read version text fields (Ok found) e h memory = worded_or_not version text fields found e h
+worded_read version text fields (Err error) e h memory = (memory refl, fields, inr e)

@@ -15,8 +15,8 @@ HasNoTexts count text = (words : List (List ℕ)) (rest : List ℕ) → length w
 abbrev pub HasNoWords : Bool → List ℕ → Type 0
 HasNoWords may text = (words : List (List ℕ)) → WordsInRange may words → text ≡ added_words may words → ⊥
 
-abbrev pub IsNotAdded : ℕ → List ℕ → Type 0
-IsNotAdded version fields = (front : List ℕ) (words : List (List ℕ)) → length front ≡ 37 → WordsInRange (version == 2) words → fields ≡ front ++ added_words (version == 2) words → ⊥
+abbrev pub IsNoAddition : ℕ → List ℕ → Type 0
+IsNoAddition version fields = (front : List ℕ) (words : List (List ℕ)) → length front ≡ 37 → WordsInRange (version == 2) words → fields ≡ front ++ added_words (version == 2) words → ⊥
 
 abbrev pub IsNotWorded : ℕ → List ℕ → Type 0
 IsNotWorded version fields = (uid : ℕ) (words : List (List ℕ)) → uid < 2 ^ 32 → SetInRange (version == 2) words → fields ≡ four uid ++ words_text words → ⊥

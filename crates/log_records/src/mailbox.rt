@@ -2,7 +2,7 @@
 ghost use Rattle.std.specs.Prelude.{◌≡◌, ◌≢◌, ◌++◌, ◌∷◌, ◌⊎◌, ℕ, length, IfOk, IsErr, MatchOption, MatchResult, OnOk, OnErr};
 ghost use Rattle.mdbox_base.specs.declared.entries.BoxEntry.{BoxEntry};
 ghost use Rattle.model_logs.specs.Entries.{box_text, BoxInRange, IsBoxText};
-ghost use Rattle.log_records.specs.Worded.{IsNotAdded, IsNotWorded, MayHaveWords};
+ghost use Rattle.log_records.specs.Worded.{IsNoAddition, IsNotWorded, MayHaveWords};
 
 use crate::added::{ADDED_SIZE, Added, added_at, put_added};
 use crate::fields::{number_at, only_number, put};
@@ -109,7 +109,7 @@ fn next(fields: &[u8]) -> Option<BoxEntry>
 /// The entry of an added message.
 fn added(alloc: Global, fields: &[u8], version: u8) -> Result<Option<BoxEntry>, NoMemory>
     requires { (version ≡ 1) ⊎ (version ≡ 2) }
-    ensures entry { IfOk result (λ entry. MatchOption entry (IsNotAdded version fields.now) (IsBoxText version (65 ∷ fields.now))) }
+    ensures entry { IfOk result (λ entry. MatchOption entry (IsNoAddition version fields.now) (IsBoxText version (65 ∷ fields.now))) }
     ensures memory { IsErr result → version ≡ 2 }
 {
     let Some((added, rest)) = added_at(fields) else {

@@ -85,7 +85,8 @@ pub fn words_behind(
 pub fn words_size(words: &[Octets]) -> usize
     requires count { length words.now < 256 }
     requires short { AreShort words.now }
-    ensures { result ≡ length (words_text words.now) }
+    ensures size { result ≡ length (words_text words.now) }
+    ensures small { result < 65536 }
 {
     let mut size = 1;
     for word in words {

@@ -1,8 +1,9 @@
 -- A flag as an event, which appends one entry.
-use Rattle.mail_ops.proofs.Common.{All-nil, common_steps, nat_tests, ◌≡◌, ◌≤◌, ◌<◌, ℕ, true, false, List, [], Option, Some, None, refl, sym, ap, subst, arith, inl, option_map, option_or, find, is_some, bytes_eq, History, told_calls, Grows, Uid, Refusal, Reply, Mailbox, Lists, AreWellFormed, LogRow}
+use Rattle.mail_ops.proofs.Common.{All-nil, ◌≡◌, ◌≤◌, ◌<◌, ℕ, true, false, List, [], Option, Some, None, refl, sym, ap, subst, arith, inl, option_copied, option_map, option_or, find, is_some, bytes_eq, History, told_calls, Grows, Uid, Refusal, Reply, Mailbox, Lists, AreWellFormed, LogRow}
 use Rattle.mail_ops.proofs.Common.{BoxMeaning, row_at, MapBox, MapMeaning, no_numbers, lists_by, meanings_by, ShowLists, meaning_named, IsSettledFor, Leaves, First, BoxAppend, RunEvent, event_of, Run, own_events, PartAnswers, mailbox_named, refused_where, HasMailbox, answers_well, Around, Brings}
 use Rattle.mail_ops.proofs.Common.{NoFault, MailIsKept, Seen, ShowsSeen, HasComeTo, HasNotBegun, TellsSame, did_fall, did_own, ends_well, own_event, some_reply, stays_left, comes_along, first_reply, IsPlain, refusal_last}
 use Rattle.std.specs.Prelude.{is_none}
+use denote.Ref.{Bor}
 use Rattle.mdbox_base.specs.declared.entries.BoxEntry.TheVariants as entry
 use Rattle.mdbox_base.specs.declared.progress.Did.TheVariants as did
 use Rattle.mdbox_base.specs.declared.replies.Refusal.TheVariants as refusal
@@ -131,8 +132,10 @@ flag_broken around after run lane place said lists name number uid flags bits ol
 
 -- ---- what was looked up
 
-pub none_of : {R S : Type 0} → (f : R → S) (o : Option R) (r : Option S) → is_some o ≡ false → option_map f o ≡ r → r ≡ None
-none_of f o r gone is = grind (arith, common_steps, nat_tests)
+pub none_of : {R S : Type 0} → (f : R → S) (o : Option (Bor R)) (r : Option S) → is_some o ≡ false → option_map f (option_copied o) ≡ r → r ≡ None
+none_of f None r gone is = sym is
+none_of f (Some x) r gone is = absurd (let e : true ≡ false = gone in cc e)
 
-pub some_of : {R S : Type 0} → (f : R → S) (o : Option R) (r : Option S) → is_some o ≡ true → option_map f o ≡ r → (s : S) × (r ≡ Some s)
-some_of f o r there is = grind (arith, common_steps, nat_tests)
+pub some_of : {R S : Type 0} → (f : R → S) (o : Option (Bor R)) (r : Option S) → is_some o ≡ true → option_map f (option_copied o) ≡ r → (s : S) × (r ≡ Some s)
+some_of f None r there is = absurd (let e : false ≡ true = there in cc e)
+some_of f (Some x) r there is = (f x.now, sym is)

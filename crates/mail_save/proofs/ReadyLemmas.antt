@@ -161,6 +161,7 @@ record_ready at rows name time size octets added old new before after s guid_new
           time = refl;
           guid = refl;
           size = sym (made.size_is ∙ long);
+          words = refl;
           entry = saved_row rows added.map_uid at;
           found = made.there;
           same = ap (λ g. g.0) (sym made.guid_is);

@@ -171,6 +171,7 @@ stored_left theirs added name time octets old new before after b some r =
               flags = l.0.flags;
               time = l.0.time;
               guid = l.0.guid;
+              words = l.0.words;
               size = l.0.size;
               entry = k.now;
               found = k.there;

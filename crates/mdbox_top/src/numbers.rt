@@ -5,7 +5,7 @@ ghost use Rattle.request_text.specs.Outcomes.{is_no};
 ghost use Rattle.store_core.specs.Value.{indexes_of};
 ghost use Rattle.mdbox_top.specs.Numbers.{box_octets, octets_listed, summary_of};
 
-use box_index::BoxIndex;
+use box_index::{BoxIndex, BoxRow};
 use disk_model::Disk;
 use mail_ops::CountsTask;
 use mdbox_base::{NoMemory, Progress, Reply};
@@ -97,7 +97,15 @@ pub(crate) fn octets_in(index: &BoxIndex) -> u64
     index.known_facts();
     let mut octets = 0;
     for row in index.rows() {
-        octets += u64::from(row.size);
+        octets += size_of(row);
     }
     octets
+}
+
+/// How many octets a message has.
+fn size_of(row: &BoxRow) -> u64
+    ensures size { result ≡ row.now.size }
+    ensures short { result < 4294967296 }
+{
+    u64::from(row.size)
 }

@@ -17,7 +17,7 @@ use Rattle.model_meaning.specs.BoxMeaning.{LogRow, BoxMeaning, AllBoxFit, rows_a
 use Rattle.model_meaning.specs.MapMeaning.{MapRecord, MapMeaning, record_at}
 use Rattle.model_meaning.proofs.AppliedLemmas.{rows_by_added}
 use Rattle.model_meaning.proofs.BoxLemmas.{box_more}
-use Rattle.model_meaning.proofs.WordLemmas.{no_words}
+use Rattle.mdbox_base.proofs.KeywordLemmas.{no_words}
 use Rattle.model_store.specs.Stands.{HasInstances, StoresMessage, AreListed, HasBox, IsMailbox, AreMailboxes}
 use Rattle.model_rebuild.proofs.MapFitLemmas.{boxes_from, records_from}
 use Rattle.model_rebuild.specs.RebuiltLists.{listed_from, sent_to, rebuilt_mailbox, mailboxes_from}
@@ -76,7 +76,7 @@ added_after before uid (t ∷ ts) rows r n h room l =
     let joined = append_assoc before (e ∷ []) (added_from (uid + 1) ts) in
     record {
       fit = ((omega (arith, n), omega (arith, l), omega arith, s, omega (arith, many, room), no_words), rest.fit);
-      in_range = ((omega (arith, l), omega arith, can.time, omega (arith, s), c, can.guid, omega arith, tt), rest.in_range);
+      in_range = ((omega (arith, l), omega arith, can.time, omega (arith, s), c, can.guid, (omega arith, tt)), rest.in_range);
       rows_are = sym (ap rows_after joined) ∙ (rest.rows_are ∙ append_assoc rows (row_for uid t ∷ []) (rows_from (uid + 1) ts));
       next_is = sym (ap next_after joined) ∙ (rest.next_is ∙ (omega arith));
     }

@@ -88,6 +88,7 @@ head_fits : (octets : List ℕ) → 26 < length octets → IsOctets octets → H
 head_fits octets long io =
     let l = length-drop 8 octets in
     record {
+      version = refl;
       store = length-take-le 8 (drop 8 octets) (omega (arith, l, long));
       octets = All-take (λ o. o < 256) 8 (drop 8 octets) (All-drop (λ o. o < 256) 8 octets io);
       number = lit< tt;

@@ -180,9 +180,11 @@ row_read a b x y p q e =
     let r = number_until 32 a.uid.0 b.uid.0 _ _ refl p.0.0 q.0.0 (sym (row_first a x) ∙ e ∙ row_first b y) in
     let s = numbers_read 32 (a.flags ∷ a.size ∷ a.time ∷ []) (b.flags ∷ b.size ∷ b.time ∷ []) _ _ refl refl p.0.1 q.0.1 (ap (λ (t : List ℕ). 32 ∷ t) r.1) in
     let t = guid_and_words a.guid b.guid a.words b.words x y p.1 q.1 (ap (λ (t : List ℕ). 32 ∷ t) s.1) in
-    let u = keywords_read a.words b.words x y (each_of IsKeyword a.words p.2.each) (each_of IsKeyword b.words q.2.each) t.1 in
-    (ap (λ (n : ℕ). made_row n (a.flags ∷ a.size ∷ a.time ∷ []) a.guid a.words) r.0 ∙ ap (λ (l : List ℕ). made_row b.uid.0 l a.guid a.words) s.0
-    ∙ ap (λ (g : Guid). made_row b.uid.0 (b.flags ∷ b.size ∷ b.time ∷ []) g a.words) t.0 ∙ ap (made_row b.uid.0 (b.flags ∷ b.size ∷ b.time ∷ []) b.guid) u.0, u.1)
+    let u = keywords_read a.words b.words x y (each_of IsKeyword a.words p.2.each) (each_of IsKeyword b.words q.2.each) t.1 in (
+      ap (λ (n : ℕ). made_row n (a.flags ∷ a.size ∷ a.time ∷ []) a.guid a.words) r.0 ∙ ap (λ (l : List ℕ). made_row b.uid.0 l a.guid a.words) s.0
+          ∙ ap (λ (g : Guid). made_row b.uid.0 (b.flags ∷ b.size ∷ b.time ∷ []) g a.words) t.0 ∙ ap (made_row b.uid.0 (b.flags ∷ b.size ∷ b.time ∷ []) b.guid) u.0,
+      u.1,
+    )
 
 pub rows_read : (a b : List ListRow) (x y : List ℕ) → length a ≡ length b → AllByRecursion RowHasWords a → AllByRecursion RowHasWords b → flat_map row_text a ++ x ≡ flat_map row_text b ++ y → (a ≡ b) × (x ≡ y)
 rows_read [] [] x y l p q e = (refl, e)

@@ -61,20 +61,13 @@ fn with_message(
         return Ok((draft, uid));
     }
     let entry = added(alloc, uid, map_uid, row.time, row.whole, row.guid);
-    let draft = draft.push_box(&entry)?;
+    let draft = draft.push_box(alloc, &entry)?;
     let next = next_number(uid)?;
     Ok((draft, next))
 }
 
 /// The entry of a message that is added, without flags and keywords.
-fn added(
-    alloc: Global,
-    uid: u32,
-    map_uid: u32,
-    time: u64,
-    size: u32,
-    guid: Guid,
-) -> BoxEntry
+fn added(alloc: Global, uid: u32, map_uid: u32, time: u64, size: u32, guid: Guid) -> BoxEntry
     ensures entry { result ≡ entry.A (record { 0 = uid }) 0 time size (record { 0 = map_uid }) guid [] }
     ensures range { BoxInRange result }
 {

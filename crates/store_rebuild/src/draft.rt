@@ -56,7 +56,7 @@ impl Draft {
     }
 
     /// Adds an entry of a mailbox log.
-    pub fn push_box(self, entry: &BoxEntry) -> Result<Draft, NoMemory>
+    pub fn push_box(self, alloc: Global, entry: &BoxEntry) -> Result<Draft, NoMemory>
         requires { BoxInRange entry.now }
         ensures { IfOk result (λ draft. draft ≡ self ++ box_text entry.now ∷ []) }
     {
@@ -66,7 +66,7 @@ impl Draft {
         } = self;
         let size = in_record(box_entry_size(entry))?;
         lengths.push(size)?;
-        push_box_entry(&mut octets, entry)?;
+        push_box_entry(alloc, &mut octets, entry)?;
         Ok(Draft { octets, lengths })
     }
 

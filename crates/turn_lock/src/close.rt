@@ -20,9 +20,15 @@ pub fn close_lock<W: Charter + Send>(lock: TurnLock<W>, seats: Seq<TurnSeat<W>>)
     let Some(last) = seats.pop() else {
         unreachable!()
     };
-    let TurnSeat { seat: mut first } = last;
+    let TurnSeat {
+        seat: mut first,
+        patience: _,
+    } = last;
     while let Some(next) = seats.pop() {
-        let TurnSeat { seat: other } = next;
+        let TurnSeat {
+            seat: other,
+            patience: _,
+        } = next;
         table.shared.join_seat::<Joined>(&mut first, other);
     }
     seats.destroy_empty();

@@ -10,6 +10,7 @@ mod charter;
 mod close;
 mod lock;
 mod make;
+mod patience;
 mod place;
 mod steps;
 mod turn;

@@ -2,6 +2,7 @@
 ghost use Rattle.std.specs.Prelude.{◌≡◌};
 
 use crate::charter::Charter;
+use crate::patience::Patience;
 use crate::place::Place;
 use crate::steps::InTurns;
 use atomic_table::{Seat, Table};
@@ -18,6 +19,7 @@ pub struct TurnLock<W: Charter> {
 #[derive(Drop)]
 pub struct TurnSeat<W: Charter> {
     pub(crate) seat: Seat<Option<W>, Place<W::Terms>>,
+    pub(crate) patience: Patience,
 }
 
 /// There was no memory for a lock.

@@ -4,6 +4,7 @@ ghost use Rattle.turn_lock.specs.Seats.{IsFreeSeat, IsUnder, parts_with, seen_by
 
 use crate::charter::Charter;
 use crate::lock::{LockRefused, TurnLock, TurnSeat};
+use crate::patience::Patience;
 use crate::steps::OnePart;
 use atomic_table::{Refused, Table};
 use mdbox_base::Seq;
@@ -33,9 +34,15 @@ pub fn make_lock<W: Charter + Send>(
         Ok((table, mut first)) => {
             'deal: while dealt.len() + 1 < seats as usize {
                 let seat = table.shared.split_seat::<OnePart>(&mut first);
-                dealt.push_reserved(TurnSeat { seat });
+                dealt.push_reserved(TurnSeat {
+                    seat,
+                    patience: Patience::full(),
+                });
             }
-            dealt.push_reserved(TurnSeat { seat: first });
+            dealt.push_reserved(TurnSeat {
+                seat: first,
+                patience: Patience::full(),
+            });
             Ok((TurnLock { table }, Seq::of(dealt)))
         }
         Err(Refused { slots }) => Err(LockRefused {

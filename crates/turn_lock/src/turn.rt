@@ -6,6 +6,7 @@ ghost use Rattle.turn_lock.specs.Seats.{IsAtWork, IsFreeSeat, IsOneTurnAtMost, I
 use crate::charter::Charter;
 use crate::lock::{TurnLock, TurnSeat};
 use crate::steps::{Call, Draw, End, Look};
+use std::hint::spin_loop;
 use std::sync::Wait;
 
 /// The word that counts tickets.
@@ -16,6 +17,12 @@ const ENDED: usize = 1;
 
 /// The first of the words that seats sleep on. There are as many as there may be seats, so no two that wait have the same.
 const SLEEPS: usize = 2;
+
+/// How many turns before its own a seat's turn is near.
+const NEAR: u64 = 2;
+
+/// How many turns before its own a seat is woken.
+const AHEAD: u64 = 3;
 
 /// The slot of the world.
 const WORLD: usize = 0;
@@ -32,16 +39,28 @@ impl<W: Charter> TurnLock<W> {
         let table = &self.table.shared;
         let ticket = table.fetch_add::<Draw>(&mut seat.seat, DRAWN, 1);
         let sleeps = sleeping_word(ticket);
+        let mut looks = seat.patience.looks();
+        let mut seen = ticket;
         for _ in rt.forever() {
             let calls = table.peek(sleeps);
             let ended = table.load::<Look<W>>(&mut seat.seat, ENDED);
             if ended == ticket {
+                seat.patience.learn(looks);
                 let Some(world) = table.exchange(&mut seat.seat, WORLD, None) else {
                     unreachable!()
                 };
                 return world;
             }
-            table.park(rt, sleeps, (calls & 0xffff_ffff) as u32);
+            if ended != seen {
+                seen = ended;
+                looks = seat.patience.looks();
+            }
+            if looks > 0 && ticket.wrapping_sub(ended) <= NEAR {
+                looks -= 1;
+                spin_loop();
+            } else {
+                table.park(rt, sleeps, (calls & 0xffff_ffff) as u32);
+            }
         }
         unreachable!()
     }
@@ -61,7 +80,27 @@ impl<W: Charter> TurnLock<W> {
             Some(_) => unreachable!(),
         }
         let ticket = table.fetch_add::<End<W>>(&mut seat.seat, ENDED, 1);
-        let sleeps = sleeping_word(ticket.wrapping_add(1));
+        self.call_on(seat, ticket);
+    }
+
+    /// Wakes the seat that has the turn after this one. Unless the caller rests it wakes one more, so that it is awake by its turn.
+    fn call_on(&self, seat: &mut TurnSeat<W>, ended: u64)
+        requires { seat.old.seat.table_id ≡ self.now.table.shared.table_id }
+        ensures { (seat.new.seat.table_id ≡ seat.old.seat.table_id) × (seat.new.seat.me ≡ seat.old.seat.me) }
+    {
+        self.call(seat, ended.wrapping_add(1));
+        if seat.patience.looks() > 0 {
+            self.call(seat, ended.wrapping_add(AHEAD));
+        }
+    }
+
+    /// Wakes the seat with this ticket if it sleeps.
+    fn call(&self, seat: &mut TurnSeat<W>, ticket: u64)
+        requires { seat.old.seat.table_id ≡ self.now.table.shared.table_id }
+        ensures { (seat.new.seat.table_id ≡ seat.old.seat.table_id) × (seat.new.seat.me ≡ seat.old.seat.me) }
+    {
+        let table = &self.table.shared;
+        let sleeps = sleeping_word(ticket);
         table.fetch_add::<Call>(&mut seat.seat, sleeps, 1);
         table.wake_one(sleeps);
     }

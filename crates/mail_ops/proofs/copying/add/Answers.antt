@@ -1,10 +1,24 @@
-use Rattle.mail_ops.proofs.Common.{Some, ◌∙◌, sym, ap, subst, arith, refl, ℕ, [], All-nil, All-cons, row_of, not_true, ok_is_none, BoxTook, BoxFell}
+use Rattle.mail_ops.proofs.Common.{◌≡◌, Some, true, List, ◌∙◌, sym, ap, subst, arith, refl, ℕ, [], All-nil, All-cons, row_of, not_true, ok_is_none, BoxTook, BoxFell, BoxEntry, Uid, LogRow, added_copy}
 use Rattle.std.proofs.Common.{Err}
+use Rattle.mdbox_base.specs.Keywords.{AreWords}
 use Rattle.mdbox_base.specs.declared.entries.BoxEntry.TheVariants as box_entry
+use Rattle.model_logs.specs.Entries.{WordsInRange}
+use Rattle.model_logs.proofs.EntryLemmas.{words_in_range}
 use Rattle.model_store.specs.Opening.{HasItsRecord}
 use Rattle.mail_ops.proofs.CopyCallLemmas.{row_sound, held_row}
 use Rattle.mail_ops.proofs.MessageLemmas.{from_source, record_of_row}
 use Rattle.mail_ops.proofs.copying.add.Goals as goal
+
+-- with the row's flags and keywords, which the code has copied, the entry adds a copy of the row
+as_row : (given : Uid) (row : LogRow) (flags : ℕ) (words : List (List ℕ)) (P : BoxEntry → Type 0) → flags ≡ row.flags → words ≡ row.words → P (box_entry.A given flags row.time row.size (record { 0 = row.map_uid }) (record { 0 = row.guid }) words) → P (added_copy given row)
+as_row given row flags words P f w h = subst (λ (n : ℕ). P (box_entry.A given n row.time row.size (record { 0 = row.map_uid }) (record { 0 = row.guid }) row.words)) f
+    (subst (λ (ws : List (List ℕ)). P (box_entry.A given flags row.time row.size (record { 0 = row.map_uid }) (record { 0 = row.guid }) ws)) w h)
+
+pub append_box-requires-clause-range : goal.append_box-requires-clause-range
+append_box-requires-clause-range g c =
+    let at = c.in_ok-row.ensures.found in
+    let sound = row_sound _ c.args.store.now c.args.name.now c.args.uid.0 at.source (row_of c.in_ok-row.field-0.row.now) c.facts.ensures.store at.from in
+    (omega (arith, at.some), (let f = c.bits.ensures.flags in omega (arith, f)), sound.time, (let n = sound.size in omega (arith, n)), sound.map_uid, sound.guid, subst (WordsInRange true) (sym c.in_ok-words.ensures.ok) (words_in_range _ sound.words))
 
 pub append_box-requires-clause-fits : goal.append_box-requires-clause-fits
 append_box-requires-clause-fits g c =
@@ -30,7 +44,7 @@ returns-in-Ok-clause-added g c =
       at = at;
       source_is = same;
       holds = held_row c.args.store.now c.args.name.now c.args.uid.0 at.source c.args.source.0 c.args.held.0 row c.requires.keeps at.from same;
-      took = subst (λ (f : ℕ). BoxTook c.in_ok-row.field-0.target.0 (box_entry.A c.in_ok-row.field-0.next f row.time row.size (record { 0 = row.map_uid }) (record { 0 = row.guid }) w) c.args.store.now c.append_box.new.self (g.D.Disk.history c.args.store.now.disk) (g.D.Disk.history c.append_box.new.self.disk) (g.D.Disk.faults c.args.store.now.disk) (g.D.Disk.faults c.append_box.new.self.disk)) c.bits.ensures.same (record {
+      took = as_row c.in_ok-row.field-0.next row c.bits.result c.in_ok-words.words (λ (e : BoxEntry). BoxTook c.in_ok-row.field-0.target.0 e c.args.store.now c.append_box.new.self (g.D.Disk.history c.args.store.now.disk) (g.D.Disk.history c.append_box.new.self.disk) (g.D.Disk.faults c.args.store.now.disk) (g.D.Disk.faults c.append_box.new.self.disk)) c.bits.ensures.same c.in_ok-words.ensures.ok (record {
         appends = record {
           moments = o.any_moment;
           map = ap (λ v. v.map) o.same;
@@ -67,7 +81,7 @@ returns-in-Err-Stopped-clause-refused g c =
       at = at;
       source_is = same;
       holds = held_row c.args.store.now c.args.name.now c.args.uid.0 at.source c.args.source.0 c.args.held.0 row c.requires.keeps at.from same;
-      fell = subst (λ (f : ℕ). BoxFell c.in_ok-row.field-0.target.0 (box_entry.A c.in_ok-row.field-0.next f row.time row.size (record { 0 = row.map_uid }) (record { 0 = row.guid }) w) c.args.store.now c.append_box.new.self (g.D.Disk.history c.args.store.now.disk) (g.D.Disk.history c.append_box.new.self.disk) (g.D.Disk.faults c.args.store.now.disk) (g.D.Disk.faults c.append_box.new.self.disk)) c.bits.ensures.same (record {
+      fell = as_row c.in_ok-row.field-0.next row c.bits.result c.in_ok-words.words (λ (e : BoxEntry). BoxFell c.in_ok-row.field-0.target.0 e c.args.store.now c.append_box.new.self (g.D.Disk.history c.args.store.now.disk) (g.D.Disk.history c.append_box.new.self.disk) (g.D.Disk.faults c.args.store.now.disk) (g.D.Disk.faults c.append_box.new.self.disk)) c.bits.ensures.same c.in_ok-words.ensures.ok (record {
         appends = record {
           moments = o.any_moment;
           map = ap (λ v. v.map) o.same;

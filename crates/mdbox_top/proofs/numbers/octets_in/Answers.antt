@@ -20,8 +20,8 @@ overflow_add-octets c =
     let long : length c.rows-row-items.result ≡ length c.args.index.now.meaning.rows = sym (length-map c.rows-row-items.result row_of) ∙ ap length c.rows-row-items.ensures in
     let few = c.known_facts.ensures.few in
     let so_far = c.loop-row.invariant.1 in
-    let same = c.from-octets.ensures in
-    omega (arith, within, long, few, so_far, same)
+    let short = c.size_of-octets.ensures.short in
+    omega (arith, within, long, few, so_far, short)
 
 pub loop-row-preserved : goal.loop-row-preserved
 loop-row-preserved c =
@@ -30,12 +30,13 @@ loop-row-preserved c =
     let at = row_here c.rows-row-items.result c.args.index.now.meaning.rows (length c.loop-row.yielded) c.in-Some.row.now c.rows-row-items.ensures turn in
     let more : length (c.loop-row.yielded ++ c.in-Some.row ∷ []) ≡ length c.loop-row.yielded + 1 = length-append c.loop-row.yielded (c.in-Some.row ∷ []) in
     let so_far = c.loop-row.invariant.1 in
-    let same = c.from-octets.ensures in (
-      ap (λ (n : ℕ). n + c.from-octets.result) c.loop-row.invariant.0
+    let same = c.size_of-octets.ensures.size in
+    let short = c.size_of-octets.ensures.short in (
+      ap (λ (n : ℕ). n + c.size_of-octets.result) c.loop-row.invariant.0
           ∙ (ap (λ (n : ℕ). sum_by (λ (r : LogRow). r.size) (take (length c.loop-row.yielded) c.args.index.now.meaning.rows) + n) same
           ∙ (sym (size_more c.args.index.now.meaning.rows (length c.loop-row.yielded) c.in-Some.row.now at)
           ∙ ap (λ (n : ℕ). sum_by (λ (r : LogRow). r.size) (take n c.args.index.now.meaning.rows)) (sym more))),
-      omega (arith, so_far, same, more),
+      omega (arith, so_far, short, more),
     )
 
 pub returns-clause-octets : goal.returns-clause-octets

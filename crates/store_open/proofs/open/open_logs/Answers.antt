@@ -9,7 +9,7 @@ use Rattle.model_meaning.specs.Sound.{IsSoundMap}
 use Rattle.store_files.specs.Found.{IsFoundFiles}
 use Rattle.store_sweep.specs.Swept.{IsSwept}
 use Rattle.store_open.proofs.IdleUnlessLemmas.{stays, has_it, opening}
-use Rattle.store_open.proofs.CheckedLemmas.{names_are, all_stand, opens_at, opens_with, checked_since}
+use Rattle.store_open.proofs.CheckedLemmas.{stands_found, names_are, all_stand, opens_at, opens_with, checked_since}
 use Rattle.store_open.proofs.FoundFileLemmas.{has_files, found_on, found_back}
 use Rattle.store_open.proofs.FoundInstanceLemmas.{instances_opened, found_as, only_found}
 use Rattle.store_open.proofs.OpenStoreLemmas.{indexes_are, opened_store, opened_as, id_is, room_is, store_is}
@@ -44,6 +44,18 @@ find_files-requires-clause-highest g c =
     rw k.3.map_is (c.highest_file_is_named.ensures c.in_ok-checked.checked.id.0 k.1 k.3.good.map_entries.1 k.3.good.map_entries.0)
 
 -- what the sweep begins with
+
+pub sweep-requires-clause-root : goal.sweep-requires-clause-root
+sweep-requires-clause-root g c =
+    let k = c.in_ok-checked.ensures.checked in
+    let s = checked_since c.in_ok-checked.checked k.0 k.1 k.2 _ _ _ c.in_ok-files.ensures.idle k.3 in
+    (s.root_log.name_is, stands_found c.in_ok-checked.checked.root_log _ _ _ _ s.root_log)
+
+pub sweep-requires-clause-map_log : goal.sweep-requires-clause-map_log
+sweep-requires-clause-map_log g c =
+    let k = c.in_ok-checked.ensures.checked in
+    let s = checked_since c.in_ok-checked.checked k.0 k.1 k.2 _ _ _ c.in_ok-files.ensures.idle k.3 in
+    (s.map_log.name_is, stands_found c.in_ok-checked.checked.map_log _ _ _ _ s.map_log)
 
 pub sweep-requires-clause-opened : goal.sweep-requires-clause-opened
 sweep-requires-clause-opened g c =
