@@ -83,7 +83,8 @@ pub fn push_box_entry(alloc: Global, out: &mut Octets, entry: &BoxEntry) -> Resu
     out.push_all(&text)
 }
 
-/// The entry of a log of this version that the octets are. None if and only if they aren't one. Only keywords take memory.
+/// The entry of a log of this version that the octets are. None if and only if they aren't one. Only an `A`
+/// and a `K` of version 2 take memory, for their keywords.
 pub fn read_box_entry(alloc: Global, text: &[u8], version: u8) -> Result<Option<BoxEntry>, NoMemory>
     requires { (version ≡ 1) ⊎ (version ≡ 2) }
     ensures { MatchResult result (λ entry. MatchOption entry ((other : BoxEntry) → IsBoxText version text.now other → ⊥) (IsBoxText version text.now)) (λ _. MayHaveWords version text.now) }

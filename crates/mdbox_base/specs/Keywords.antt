@@ -31,7 +31,7 @@ pub record AreWords (words : List (List ℕ)) : Type 0 where
   pub each : All IsKeyword words
   pub rising : AllPairs (λ a b. slice_cmp nat_cmp a b ≡ Less) words
 
--- a copy of an entry may take memory: it has keywords
+-- an entry that may have keywords, so that a copy of it may take memory
 abbrev pub WantsMemory : BoxEntry → Type 0
 WantsMemory (box.A uid flags time size map_uid guid words) = Unit {0}
 WantsMemory (box.K uid words) = Unit {0}

@@ -69,8 +69,8 @@ pub record OpensSaved (name : List ℕ) (time : ℕ) (octets : List ℕ) (prepar
 -- opened, and by the storage files that it found. Where the logs say why the message isn't saved, the files open with the same
 -- logs, all that the store reads is carried over, and the disk was swept. With any other refusal they open with the same listings,
 -- unless the store is stopped. Where it is saved, their logs show the lists with the message: last in its mailbox, with its next
--- UID, without flags, with this time and these octets, and with the GUID that is replied; its octets were added to its storage
--- file, and what else the store reads of storage files and instances is carried over. The opening swept the disk; at each moment of it and
+-- UID, without flags or keywords, with this time and these octets, and with the GUID that is replied; its octets were added to
+-- its storage file, and what else the store reads of storage files and instances is carried over. The opening swept the disk; at each moment of it and
 -- afterwards, whatever failed, storage files stayed as far as their regions, sealed ones whole, and so did instances; and after it,
 -- unless the store is stopped, no storage file has changed but the one that was taken for the message, and no instance, but that
 -- new ones have the octets of its attachments. Unless the store is stopped, a disk that was settled for lists is settled for those

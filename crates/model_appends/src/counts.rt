@@ -44,7 +44,7 @@ pub fn entries_are_accounted()
     ensures counted { (due leak : ℕ → ℕ) (logs : List (List BoxEntry)) (rows : List MapRecord) → All (IsAccounted due leak logs) rows → All (IsCounted logs) rows }
 {}
 
-/// How many listed messages have a GUID, with an entry more: as many behind a Next, a Flagged and a Keywords, no more behind a
+/// How many listed messages have a GUID, with an entry more: as many behind a Next, a Flagged and a Worded, no more behind a
 /// Removed, at most one more of its own GUID behind an Added, as many where a mailbox is made or renamed, and fewer by its
 /// amounts where one is deleted.
 pub fn entries_change_references()

@@ -15,7 +15,7 @@ pub record LogRow : Type 0 where
   pub guid : List ℕ
   pub words : List (List ℕ)
 
--- An Added makes a row, a Removed removes it, a Flagged changes its flags and a Keywords its keywords.
+-- An Added makes a row, a Removed removes it, a Flagged changes its flags and a Worded its keywords.
 abbrev pub row_made : BoxEntry → List LogRow
 row_made (box.A uid flags time size map_uid guid words) =
     record { uid = uid.0; flags = flags; time = time; size = size; map_uid = map_uid.0; guid = guid.0; words = words } ∷ []

@@ -20,8 +20,8 @@ row_entry row = box.A (record { 0 = row.uid }) row.flags row.time row.size (reco
 abbrev pub next_from : ℕ → List LogRow → ℕ
 next_from next rows = fold (λ next row. row.uid + 1) next rows
 
--- An Added for each message, in UID order, with its present flags; then a Next, if the next UID isn't one more than the last
--- message's.
+-- An Added for each message, in UID order, with its present flags and keywords; then a Next, if the next UID isn't one
+-- more than the last message's.
 abbrev pub box_snapshot : BoxMeaning → List BoxEntry
 box_snapshot m = map row_entry m.rows ++ (if next_from 1 m.rows == m.next then [] else box.N m.next ∷ [])
 

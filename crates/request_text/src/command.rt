@@ -117,9 +117,9 @@ rebuild ID  makes new logs, with the id ID, for the storage files in the current
             messages; no storage file and no attachment is changed
 dump        reads a storage file (m.N) of mdbox from standard input and prints, for each message,
             MESSAGE, its offset and the size of its body, and then its metadata lines, each after two spaces
-logdump     reads a log of mdbox from standard input and prints LOG, its kind (R, M or B), its number and its
-            generation, then for each entry the offset of its record and its octets in hexadecimal digits,
-            and END with the offset of the last gate
+logdump     reads a log of mdbox from standard input and prints LOG, its kind (R, M or B), its number, its
+            generation and V2 if that is its version, then for each entry the offset of its record and its
+            octets in hexadecimal digits, and END with the offset of the last gate
 --help      prints this
 --version   prints the version
 
