@@ -7,7 +7,7 @@ use Rattle.mdbox_base.specs.declared.ids.MapUid.{MapUid}
 use Rattle.mdbox_base.specs.declared.ids.Guid.{Guid}
 use Rattle.mdbox_base.specs.declared.entries.BoxEntry.TheVariants as entry
 use Rattle.model_lists.specs.Lists.{ListedMessage, Mailbox, Lists, change_first, AreWellFormed, IsMailboxInOrder}
-use Rattle.list_machine.specs.Machine.{has_name, has_number, is_message_of_uid, mailbox_named, without_first, set_flags, expunge, expunge_from, delete_mailbox, rename_mailbox, add_message}
+use Rattle.list_machine.specs.Machine.{has_name, has_number, is_message_of_uid, mailbox_named, without_first, set_flags, set_words, expunge, expunge_from, delete_mailbox, rename_mailbox, add_message}
 use Rattle.model_meaning.proofs.AppliedLemmas.{only_changes, only_adds}
 use Rattle.model_octets.proofs.PairLemmas.{pairs_head, pairs_tail, found_holds}
 use Rattle.model_octets.proofs.SearchLemmas.{both_same}
@@ -113,6 +113,16 @@ flagged_by lists name x octets uid flags well found =
     change_named _ _ name x.number lists x well.numbers found refl
     (same_parts x _ _ _ _ (let e : max x.next_uid 1 ≡ x.next_uid = omega (arith, some) in e)
     (only_changes (message_changed (entry.F uid flags)) x.messages ∙ changes_first uid.0 (λ (m : ListedMessage). record m { flags = flags }) x.messages order.rising))
+
+-- keywords
+pub worded_by : (lists : Lists) (name : List ℕ) (x : Mailbox) (octets : List ℕ) (uid : Uid) (words : List (List ℕ)) → AreWellFormed lists → mailbox_named name lists ≡ Some x → lists_by x.number octets (entry.K uid words) lists ≡ set_words name uid.0 words lists
+unfolding with_parts
+worded_by lists name x octets uid words well found =
+    let order = in_order name lists x well found in
+    let some : 1 ≤ x.next_uid = order.next_some in
+    change_named _ _ name x.number lists x well.numbers found refl
+    (same_parts x _ _ _ _ (let e : max x.next_uid 1 ≡ x.next_uid = omega (arith, some) in e)
+    (only_changes (message_changed (entry.K uid words)) x.messages ∙ changes_first uid.0 (λ (m : ListedMessage). record m { words = words }) x.messages order.rising))
 
 -- an expunge
 pub removed_by : (lists : Lists) (name : List ℕ) (x : Mailbox) (octets : List ℕ) (uid : Uid) → AreWellFormed lists → mailbox_named name lists ≡ Some x → lists_by x.number octets (entry.R uid) lists ≡ expunge name uid.0 lists

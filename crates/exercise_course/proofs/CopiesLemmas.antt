@@ -99,6 +99,7 @@ does_new first lanes run event old (request.Copy name uid target) Last (reply.Co
 does_new first lanes run event old (request.Expunge name uid) First reply.Done new l g a d = subst (HaveNew first lanes) (sym d) (expunged_new first lanes name uid.0 old a)
 does_new first lanes run event old (request.List name) part r new l g a d = absurd l
 does_new first lanes run event old (request.Fetch name uid) part r new l g a d = absurd l
+does_new first lanes run event old (request.Keywords name uid words) part r new l g a d = absurd l
 does_new first lanes run event old (request.Move name uid target) part r new l g a d = absurd l
 does_new first lanes run event old (request.Delete name) part r new l g a d = absurd l
 does_new first lanes run event old (request.Rename name target) part r new l g a d = absurd l

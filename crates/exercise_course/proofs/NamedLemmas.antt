@@ -162,6 +162,7 @@ step_agrees around after run lists old new name q event answer s ev says answers
         changed other (λ m. record m { messages = change_first (is_message_of_uid uid.0) (λ message. record message { flags = flags }) m.messages }) (λ m. refl) (λ m. refl) d
     by_does (request.List other) part r s ev none is d = absurd s
     by_does (request.Fetch other uid) part r s ev none is d = absurd s
+    by_does (request.Keywords other uid words) part r s ev none is d = absurd s
     by_does (request.Move other uid target) part r s ev none is d = absurd s
     by_does (request.Delete other) part r s ev none is d = absurd s
     by_does (request.Rename other target) part r s ev none is d = absurd s

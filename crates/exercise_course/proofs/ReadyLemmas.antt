@@ -136,6 +136,7 @@ does_so : (run : Run) (event : RunEvent) (old : Lists) (q : Request) (part : Eve
 does_so run event old (request.List name) First (reply.Listed rows) new d = (refl, tt)
 does_so run event old (request.Fetch name uid) First (reply.Fetched octets) new d = (refl, tt)
 does_so run event old (request.Flag name uid flags) First reply.Done new d = (refl, d)
+does_so run event old (request.Keywords name uid words) First reply.Done new d = (refl, tt)
 does_so run event old (request.Make name) Last reply.Done new d = (refl, (d.number, d.new_is))
 does_so run event old (request.Delete name) First reply.Done new d = (refl, tt)
 does_so run event old (request.Rename name target) First reply.Done new d = (refl, tt)

@@ -4,7 +4,7 @@ use Rattle.std.specs.Option.{option_map_or}
 use Rattle.mdbox_base.specs.declared.requests.Request.{Request}
 use Rattle.mdbox_base.specs.declared.requests.Request.TheVariants as request
 use Rattle.model_lists.specs.Lists.{Lists, empty_mailbox}
-use Rattle.list_machine.specs.Machine.{add_message, delete_mailbox, expunge, message_at, rename_mailbox, set_flags}
+use Rattle.list_machine.specs.Machine.{add_message, delete_mailbox, expunge, message_at, rename_mailbox, set_flags, set_words}
 use Rattle.journal.specs.Journal.{Requests}
 
 -- the lists with the copy of a message, if it is there
@@ -21,6 +21,7 @@ lists_done (request.Copy name uid target) lists = with_copy name uid.0 target li
 lists_done (request.Move name uid target) lists = expunge name uid.0 (with_copy name uid.0 target lists)
 lists_done (request.Expunge name uid) lists = expunge name uid.0 lists
 lists_done (request.Flag name uid flags) lists = set_flags name uid.0 flags lists
+lists_done (request.Keywords name uid words) lists = set_words name uid.0 words lists
 lists_done other lists = lists
 
 -- those that a script leaves whose requests are done in order

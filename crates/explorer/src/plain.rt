@@ -1,6 +1,6 @@
 // Mailbox lists that follow a journal, a step at a time.
 use mdbox_base::{
-    BoxNo, Guid, Half, ListRow, Name, NoMemory, Octets, Refusal, Reply, Request, Seq, Uid,
+    BoxNo, Guid, Half, ListRow, Name, NoMemory, Octets, Refusal, Reply, Request, Seq, Uid, Words,
     flags_of, name_of,
 };
 use plain_lists::{PlainLists, PlainMailbox, PlainMessage};
@@ -88,6 +88,7 @@ impl Followed {
                 self.put_back(lists);
                 Ok(Some(reply))
             }
+            Request::Keywords { name, uid, words } => Ok(Some(self.keywords(name, *uid, words)?)),
             Request::Copy { name, uid, target } => Ok(Some(self.copy(name, *uid, target)?)),
             Request::Expunge { name, uid } => {
                 let mut lists = self.lists();
@@ -158,6 +159,14 @@ impl Followed {
         reply
     }
 
+    fn keywords(&mut self, name: &Name, uid: Uid, words: &Words) -> Result<Reply, NoMemory> {
+        let words = words.copied(self.alloc)?;
+        let mut lists = self.lists();
+        let reply = lists.keywords(name, uid, words);
+        self.put_back(lists);
+        Ok(reply)
+    }
+
     fn rename(&mut self, name: &Name, target: Name) -> Reply {
         let mut lists = self.lists();
         let reply = lists.rename(name, target);
@@ -206,6 +215,7 @@ impl Followed {
             time,
             guid,
             octets: Octets::of(octets),
+            words: Words::none(self.alloc),
         };
         for mailbox in self.mailboxes.iter_mut() {
             if mailbox.name.as_octets() == name.as_octets() && mailbox.next_uid < u32::MAX {

@@ -60,6 +60,7 @@ refused_ends (request.Deliver name time octets) part = addition_ends part
 refused_ends (request.List name) part = refl
 refused_ends (request.Fetch name uid) part = piece_ends part
 refused_ends (request.Flag name uid flags) part = refl
+refused_ends (request.Keywords name uid words) part = refl
 refused_ends (request.Copy name uid target) part = addition_ends part
 refused_ends (request.Move name uid target) part = addition_ends part
 refused_ends (request.Expunge name uid) part = refl

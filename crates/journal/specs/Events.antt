@@ -448,6 +448,8 @@ abbrev pub DidPart : Around → Run → Lists → Request → RunEvent → Event
 DidPart around run lists (request.Deliver name time octets) event part = DidDeliver around run lists name time octets event part
 DidPart around run lists (request.Flag name uid flags) event First =
     (mailbox : Mailbox) × (mailbox_named name lists ≡ Some mailbox) × (event ≡ record (plain event) { box_entries = adds_to mailbox (box.F uid flags) })
+DidPart around run lists (request.Keywords name uid words) event First =
+    (mailbox : Mailbox) × (mailbox_named name lists ≡ Some mailbox) × (event ≡ record (plain event) { box_entries = adds_to mailbox (box.K uid words) })
 DidPart around run lists (request.Expunge name uid) event First = Removes run lists name uid.0 event
 DidPart around run lists (request.Expunge name uid) event GivesBack = Lowers (owed_by event.request run) event
 DidPart around run lists (request.Move name uid target) event SecondHalf =
@@ -469,6 +471,7 @@ abbrev pub is_step_part : Request → EventPart → Bool
 is_step_part (request.List name) First = true
 is_step_part (request.Fetch name uid) First = true
 is_step_part (request.Flag name uid flags) First = true
+is_step_part (request.Keywords name uid words) First = true
 is_step_part (request.Expunge name uid) First = true
 is_step_part request.Counts First = true
 is_step_part (request.Deliver name time octets) Last = true

@@ -27,6 +27,10 @@ pub flag_takes_none : (name : List ℕ) (uid : Uid) (flags : ℕ) → TakesNone 
 flag_takes_none name uid flags around run lists event First d = files_of event _ d.2
 flag_takes_none name uid flags around run lists event part d = files_of event _ d
 
+pub words_take_none : (name : List ℕ) (uid : Uid) (words : List (List ℕ)) → TakesNone (request.Keywords name uid words)
+words_take_none name uid words around run lists event First d = files_of event _ d.2
+words_take_none name uid words around run lists event part d = files_of event _ d
+
 pub expunge_takes_none : (name : List ℕ) (uid : Uid) → TakesNone (request.Expunge name uid)
 expunge_takes_none name uid around run lists event First d = files_of event _ d.4
 expunge_takes_none name uid around run lists event GivesBack d = files_of event _ d.2

@@ -35,6 +35,7 @@ use Rattle.mail_ops.specs.Deleting.{DeleteAnswers}
 use Rattle.mail_ops.specs.Event.{refusal_told}
 use Rattle.mail_ops.specs.Expunging.{ExpungeAnswers}
 use Rattle.mail_ops.specs.Flagging.{flag_refusal}
+use Rattle.mail_ops.specs.Wording.{WordsAnswers}
 use Rattle.mail_ops.specs.Making.{IsLogNotMade}
 use Rattle.mail_ops.specs.Moving.{MoveAnswers}
 use Rattle.mail_ops.specs.Renaming.{RenameAnswers}
@@ -500,6 +501,16 @@ ops_refused (request.Flag name uid flags) old new given answer why is e step sai
     by_check : (o : Option Refusal) → flag_refusal name uid.0 old ≡ o → new ≡ old
     by_check None free = by_reply (said.1 free)
     by_check (Some cause) check = same (cause, check)
+ops_refused (request.Keywords name uid words) old new given answer why is e step said same = by_check (flag_refusal name uid.0 old) said
+  where
+    told : given ≡ reply.Refused why
+    told = done_one given (reply.Refused why) (sym is ∙ e)
+
+    by_check : (o : Option Refusal) → WordsAnswers o old new given → new ≡ old
+    by_check (Some cause) s = s.1
+    by_check None (inl done) = absurd (let k : reply.Done ≡ reply.Refused why = sym done ∙ told in cc k)
+    by_check None (inr (inl untaken)) = untaken.1
+    by_check None (inr (inr fell)) = absurd (not_a_step why refusal.Stopped (let k : reply.Refused why ≡ reply.Refused refusal.Stopped = sym told ∙ fell.0 in cc k) refl step)
 ops_refused other old new given answer why is e step said same = absurd said
 
 pub delete_refused : {D : Type 0} → (name : List ℕ) (now next : DeleteStage) (old new : StoreValue D) (before after : Option History) (answer : Progress) (why : Refusal) → now ≡ delete_stage.First → answer ≡ progress.Done (reply.Refused why) → is_step why ≡ true → DeleteAnswers name now old new before after next answer → new ≡ old

@@ -43,11 +43,11 @@ use Rattle.purge_task.specs.Clause.{PurgeSteps, TellsUses, around_purging}
 use Rattle.purge_task.specs.Stages.{IsAtPurge}
 use Rattle.resync_task.specs.Clause.{ResyncClause}
 use Rattle.resync_task.specs.Task.{ResyncValue}
-use Rattle.lane_tasks.specs.Clause.{DoomsNone, FindsAround, LeavesUndoomed, SetsNoFlags, StaysOfRequest, StepsTask, around_at}
+use Rattle.lane_tasks.specs.Clause.{DoomsNone, FindsAround, LeavesUndoomed, SetsNothing, StaysOfRequest, StepsTask, around_at}
 use Rattle.lane_tasks.specs.Tasks.{IsAtTask, IsDeliveryOf, IsTaskOf, TookFiles, did_of}
 use Rattle.lane_tasks.specs.declared.task.Task.TheVariants as task
 use Rattle.lane_tasks.proofs.NamedLemmas.{names_on}
-use Rattle.lane_tasks.proofs.FilesLemmas.{TakesNone, copy_takes_none, counts_takes_none, delete_takes_none, expunge_takes_none, fetch_takes_none, flag_takes_none, list_takes_none, make_takes_none, move_takes_none, rename_takes_none, resync_takes_none, took_none_more}
+use Rattle.lane_tasks.proofs.FilesLemmas.{TakesNone, copy_takes_none, counts_takes_none, delete_takes_none, expunge_takes_none, fetch_takes_none, flag_takes_none, list_takes_none, make_takes_none, move_takes_none, rename_takes_none, resync_takes_none, took_none_more, words_take_none}
 use Rattle.lane_tasks.proofs.PurgeApartLemmas.{apart_on}
 use Rattle.lane_tasks.proofs.PurgeTakenLemmas.{same}
 
@@ -147,12 +147,14 @@ rename_does t u old new before after began now ended same rest steps =
 ops_takes_none : (q : Request) → IsOpsRequest q → TakesNone q
 ops_takes_none (request.List name) is = list_takes_none name
 ops_takes_none (request.Flag name uid flags) is = flag_takes_none name uid flags
+ops_takes_none (request.Keywords name uid words) is = words_take_none name uid words
 ops_takes_none other is = absurd is
 
 -- a task that replied so is of such a request
 pub ops_asked : {D : Type 0} → (q : Request) (old new : StoreValue D) (given : Reply) → Replies q old new given → IsOpsRequest q
 ops_asked (request.List name) old new given r = tt
 ops_asked (request.Flag name uid flags) old new given r = tt
+ops_asked (request.Keywords name uid words) old new given r = tt
 ops_asked other old new given r = absurd r
 
 pub ops_does : {D : Type 0} → (t u : TaskValue) (old new : StoreValue D) (before after : Option History) (began now : Faults) (ended : Option Reply) → IsOpsRequest t.request → u.request ≡ t.request → KeepsRest old new
@@ -175,9 +177,10 @@ pub stays_stopped : {D : Type 0} → (old new : StoreValue D) → (old.stopped �
 stays_stopped old new still stopped = ap (λ (s : StoreValue _). s.stopped) (still stopped) ∙ stopped
 
 -- a listing changes nothing
-pub lists_same : {D : Type 0} → (q : Request) (old new : StoreValue D) → IsOpsRequest q → (AppendsNothing q old → new ≡ old) → SetsNoFlags q → new ≡ old
+pub lists_same : {D : Type 0} → (q : Request) (old new : StoreValue D) → IsOpsRequest q → (AppendsNothing q old → new ≡ old) → SetsNothing q → new ≡ old
 lists_same (request.List name) old new is same none = same tt
 lists_same (request.Flag name uid flags) old new is same none = absurd none
+lists_same (request.Keywords name uid words) old new is same none = absurd none
 lists_same other old new is same none = absurd is
 
 -- a store that runs ran before

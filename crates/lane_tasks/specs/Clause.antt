@@ -130,13 +130,14 @@ pub record PassesInRun {D : Type 0} (task : Task) (store : StoreValue D) (histor
 
 -- ---- what it keeps, of which run it may be
 
--- A task that reads at the most: of a count or a fetch, or of a listing, which has one kind of task with a setting of flags.
-abbrev pub SetsNoFlags : Request → Type 0
-SetsNoFlags (request.Flag name uid flags) = ⊥
-SetsNoFlags other = Unit {0}
+-- A task that reads at the most: of a count or a fetch, or of a listing, which has one kind of task with a setting of flags or keywords.
+abbrev pub SetsNothing : Request → Type 0
+SetsNothing (request.Flag name uid flags) = ⊥
+SetsNothing (request.Keywords name uid words) = ⊥
+SetsNothing other = Unit {0}
 
 abbrev pub OnlyReads : Task → Type 0
-OnlyReads (task.Ops t) = SetsNoFlags t.request
+OnlyReads (task.Ops t) = SetsNothing t.request
 OnlyReads (task.Counts t) = Unit {0}
 OnlyReads (task.Fetch t) = Unit {0}
 OnlyReads other = ⊥
@@ -198,7 +199,7 @@ pub record PurgesSo {D : Type 0} (t next : PurgeValue) (old new : StoreValue D) 
   pub first : t.stage ≡ purge_stage.First → BeginsPurge (progress_by ended) next.stage old before after
   pub refused : (why : Refusal) → ended ≡ Some (reply.Refused why) → why ≢ refusal.ReadFault → why ≢ refusal.Stopped → t.stage ≡ purge_stage.First
 
--- What a task answers, by what its event found in the store and left of it: of a listing or a setting of flags, and, unless the store
+-- What a task answers, by what its event found in the store and left of it: of a listing or a setting of flags or keywords, and, unless the store
 -- was stopped, of a make, a copy, a move, an expunge, a deletion, a renaming, a delivery or a resync, with the stages before and after. A
 -- resync that puts counts right leaves each exact. Of a purge it is what its event dropped, and what it made of the files.
 abbrev pub TellsStore : {D : Type 0} → Task → Task → StoreValue D → StoreValue D → Option History → Option History → Option Reply → Type 0

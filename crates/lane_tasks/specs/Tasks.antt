@@ -60,7 +60,7 @@ abbrev pub IsDeliveryOf : SaveValue → Request → Type 0
 IsDeliveryOf t (request.Deliver name time octets) = (name ≡ t.name) × (time ≡ t.time)
 IsDeliveryOf t other = ⊥
 
--- The request is the task's. A listing and a setting of flags have one kind of task.
+-- The request is the task's. A listing and a setting of flags or keywords have one kind of task.
 abbrev pub IsTaskOf : Task → Request → Type 0
 IsTaskOf (task.Ops t) asked = asked ≡ t.request
 IsTaskOf (task.Counts t) asked = asked ≡ request.Counts

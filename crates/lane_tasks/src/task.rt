@@ -26,7 +26,7 @@ use store_core::Store;
 /// The task of a request of any kind.
 #[derive(Drop)]
 pub enum Task {
-    /// Of a listing, or of a setting of flags.
+    /// Of a listing, or of a setting of flags or keywords.
     Ops(OpsTask),
     /// Of a count.
     Counts(CountsTask),
@@ -72,6 +72,9 @@ impl Task {
             Request::List { name } => Task::Ops(OpsTask::of(Request::List { name })),
             Request::Flag { name, uid, flags } => {
                 Task::Ops(OpsTask::of(Request::Flag { name, uid, flags }))
+            }
+            Request::Keywords { name, uid, words } => {
+                Task::Ops(OpsTask::of(Request::Keywords { name, uid, words }))
             }
             _ => unreachable!(),
         }

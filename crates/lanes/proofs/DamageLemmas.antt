@@ -150,6 +150,7 @@ damaged_fetch : (asked : Request) (steps : List Reply) (file : FileNo) (offset :
 damaged_fetch (request.Fetch name uid) steps file offset is = (name, uid, refl)
 damaged_fetch (request.List name) steps file offset is = absurd is
 damaged_fetch (request.Flag name uid flags) steps file offset is = absurd is
+damaged_fetch (request.Keywords name uid words) steps file offset is = absurd is
 damaged_fetch (request.Make name) steps file offset is = absurd is
 damaged_fetch (request.Delete name) steps file offset is = absurd is
 damaged_fetch (request.Rename name target) steps file offset is = absurd is

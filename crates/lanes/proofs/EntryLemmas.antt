@@ -119,6 +119,7 @@ halves_two (request.Deliver name time message) = omega arith
 halves_two (request.List name) = omega arith
 halves_two (request.Fetch name uid) = omega arith
 halves_two (request.Flag name uid flags) = omega arith
+halves_two (request.Keywords name uid words) = omega arith
 halves_two (request.Copy name uid target) = omega arith
 halves_two (request.Expunge name uid) = omega arith
 halves_two (request.Make name) = omega arith

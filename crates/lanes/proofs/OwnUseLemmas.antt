@@ -87,6 +87,10 @@ flagged_none : (name : List ℕ) (uid : Uid) (flags : ℕ) → DidOther (request
 flagged_none name uid flags around run lists event First d = uses_as event _ d.2
 flagged_none name uid flags around run lists event part d = uses_as event _ d
 
+worded_none : (name : List ℕ) (uid : Uid) (words : List (List ℕ)) → DidOther (request.Keywords name uid words)
+worded_none name uid words around run lists event First d = uses_as event _ d.2
+worded_none name uid words around run lists event part d = uses_as event _ d
+
 expunged_none : (name : List ℕ) (uid : Uid) → DidOther (request.Expunge name uid)
 expunged_none name uid around run lists event First d = uses_as event _ d.4
 expunged_none name uid around run lists event GivesBack d = uses_as event _ d.2
@@ -133,6 +137,7 @@ did_uses (request.Deliver name time octets) around run lists event part d = deli
 did_uses (request.Fetch name uid) around run lists event part d = fetched_finds run lists name uid.0 event part d
 did_uses (request.List name) around run lists event part d = listed_none name around run lists event part d
 did_uses (request.Flag name uid flags) around run lists event part d = flagged_none name uid flags around run lists event part d
+did_uses (request.Keywords name uid words) around run lists event part d = worded_none name uid words around run lists event part d
 did_uses (request.Copy name uid target) around run lists event part d = copied_none run lists name uid.0 target event part d
 did_uses (request.Move name uid target) around run lists event part d = moved_none name uid target around run lists event part d
 did_uses (request.Expunge name uid) around run lists event part d = expunged_none name uid around run lists event part d

@@ -12,7 +12,7 @@ use Rattle.mdbox_base.specs.declared.replies.Refusal.TheVariants.{NoMailbox, Inb
 use Rattle.mdbox_base.specs.declared.replies.Reply.{Reply}
 use Rattle.mdbox_base.specs.declared.replies.Reply.TheVariants as reply
 use Rattle.list_machine.specs.Run.{EventPart, First, Last, SecondHalf, RunEvent, Run, source_of}
-use Rattle.list_machine.specs.Machine.{Check, HasMailbox, IsNotInbox, IsNewName, HasUid, RoomForMailbox, RoomForMessage, NextUid, NextMapUid, NextFiles, TargetFits, NextInstance, NextMailbox, MayBeCopied, refused_where, refusal_at, is_step, Answers, Does, IsCopied, IsDelivered, IsMade, IsSecondHalf, checks_of, first_refusal, refs_added, refs_taken, refs_within, without_first, has_name, is_message_of_uid, mailbox_named, message_at, message_in, message_numbered, set_flags, expunge, expunge_from, delete_mailbox, rename_mailbox, has_number, add_last, add_message, one_of_guid}
+use Rattle.list_machine.specs.Machine.{Check, HasMailbox, IsNotInbox, IsNewName, HasUid, RoomForMailbox, RoomForMessage, NextUid, NextMapUid, NextFiles, TargetFits, NextInstance, NextMailbox, MayBeCopied, refused_where, refusal_at, is_step, Answers, Does, IsCopied, IsDelivered, IsMade, IsSecondHalf, checks_of, first_refusal, refs_added, refs_taken, refs_within, without_first, has_name, is_message_of_uid, mailbox_named, message_at, message_in, message_numbered, set_flags, set_words, expunge, expunge_from, delete_mailbox, rename_mailbox, has_number, add_last, add_message, one_of_guid}
 
 -- what a change of the first that passes does to a sum
 sum_change : {X : Type 0} → (f : X → ℕ) (test : X → Bool) (change : X → X) (more less : ℕ) (xs : List X) → ((x : X) → find test xs ≡ Some x → f (change x) + less ≡ f x + more) →
@@ -57,6 +57,13 @@ pub refs_flagged : (old : Lists) (name : List ℕ) (uid flags : ℕ) (guid : Lis
 refs_flagged old name uid flags guid =
     let h = sum_change (refs_in guid) (has_name name) (λ (mailbox : Mailbox). record mailbox { messages = change_first (is_message_of_uid uid) (λ message. record message { flags = flags }) mailbox.messages }) 0 0 old
     (λ mailbox e. sum_change (of_guid guid) (is_message_of_uid uid) (λ message. record message { flags = flags }) 0 0 mailbox.messages (λ message e. refl) (λ e. refl)) (λ e. refl) in
+    omega (arith, h)
+
+-- nor are keywords
+pub refs_worded : (old : Lists) (name : List ℕ) (uid : ℕ) (words : List (List ℕ)) (guid : List ℕ) → refs_of (set_words name uid words old) guid ≡ refs_of old guid
+refs_worded old name uid words guid =
+    let h = sum_change (refs_in guid) (has_name name) (λ (mailbox : Mailbox). record mailbox { messages = change_first (is_message_of_uid uid) (λ message. record message { words = words }) mailbox.messages }) 0 0 old
+    (λ mailbox e. sum_change (of_guid guid) (is_message_of_uid uid) (λ message. record message { words = words }) 0 0 mailbox.messages (λ message e. refl) (λ e. refl)) (λ e. refl) in
     omega (arith, h)
 
 -- one message more
@@ -139,6 +146,8 @@ does_refs run event old (request.List name) First (reply.Listed rows) new guid d
 does_refs run event old (request.Fetch name uid) First (reply.Fetched octets) new guid d = same_lists old new guid d.3
 does_refs run event old (request.Flag name uid flags) First reply.Done new guid d =
     let k = refs_flagged old name uid.0 flags guid in let n = ap (λ (lists : Lists). refs_of lists guid) d in omega (arith, k, n)
+does_refs run event old (request.Keywords name uid words) First reply.Done new guid d =
+    let k = refs_worded old name uid.0 words guid in let n = ap (λ (lists : Lists). refs_of lists guid) d in omega (arith, k, n)
 does_refs run event old (request.Make name) Last reply.Done new guid d = made_refs run event old new name guid d
 does_refs run event old (request.Deliver name time octets) Last (reply.Saved uid own) new guid d = delivered_refs run event old new name time octets uid.0 own.0 guid d
 does_refs run event old (request.Copy name uid target) Last (reply.Copied given) new guid d = copied_refs old new name uid.0 target given.0 guid d

@@ -17,7 +17,7 @@ use Rattle.mdbox_base.specs.declared.replies.Reply.{Reply}
 use Rattle.mdbox_base.specs.declared.replies.Reply.TheVariants as reply
 use Rattle.model_lists.specs.Lists.{ListedMessage, Mailbox, Lists, IsMessageInRange, IsMailboxInOrder, AreWellFormed, empty_mailbox, change_first}
 use Rattle.list_machine.specs.Run.{EventPart, First, Last, SecondHalf, RunEvent, Run, source_of}
-use Rattle.list_machine.specs.Machine.{HasMailbox, IsNotInbox, IsNewName, HasUid, RoomForMailbox, RoomForMessage, NextUid, refused_where, refusal_at, first_refusal, part_checks, Answers, Does, RequestInRange, IsCopied, IsDelivered, IsMade, IsSecondHalf, without_first, has_name, has_number, is_message_of_uid, mailbox_named, message_in, message_at, set_flags, expunge, expunge_from, delete_mailbox, rename_mailbox, add_last, add_message}
+use Rattle.list_machine.specs.Machine.{HasMailbox, IsNotInbox, IsNewName, HasUid, RoomForMailbox, RoomForMessage, NextUid, refused_where, refusal_at, first_refusal, part_checks, Answers, Does, RequestInRange, IsCopied, IsDelivered, IsMade, IsSecondHalf, without_first, has_name, has_number, is_message_of_uid, mailbox_named, message_in, message_at, set_flags, set_words, expunge, expunge_from, delete_mailbox, rename_mailbox, add_last, add_message}
 use Rattle.list_machine.proofs.MachineLemmas.{some_one}
 use Rattle.model_octets.proofs.PairLemmas.{found_among, pairs_nil, pairs_head, pairs_tail, pairs_push}
 
@@ -87,6 +87,16 @@ flagged_in_order mailbox uid flags le o =
     (all_changed (IsBelow mailbox.next_uid) (is_message_of_uid uid) (λ message. record message { flags = flags }) mailbox.messages (λ x e h. h) o.below)
     (all_changed IsMessageInRange (is_message_of_uid uid) (λ message. record message { flags = flags }) mailbox.messages (λ x e h. flagged_fits x flags le h) o.in_range)
 
+worded_fits : (message : ListedMessage) (words : List (List ℕ)) → AreWords words → IsMessageInRange message → IsMessageInRange (record message { words = words })
+worded_fits message words are f = record { uid_some = f.uid_some; uid_fits = f.uid_fits; flags = f.flags; time = f.time; guid = f.guid; size = f.size; words = are }
+
+worded_in_order : (mailbox : Mailbox) (uid : ℕ) (words : List (List ℕ)) → AreWords words → IsMailboxInOrder mailbox → IsMailboxInOrder (record mailbox { messages = change_first (is_message_of_uid uid) (λ message. record message { words = words }) mailbox.messages })
+worded_in_order mailbox uid words are o =
+    with_messages mailbox (change_first (is_message_of_uid uid) (λ message. record message { words = words }) mailbox.messages) o
+    (pairs_changed Rises (is_message_of_uid uid) (λ message. record message { words = words }) (λ a b h. h) (λ a b h. h) mailbox.messages o.rising)
+    (all_changed (IsBelow mailbox.next_uid) (is_message_of_uid uid) (λ message. record message { words = words }) mailbox.messages (λ x e h. h) o.below)
+    (all_changed IsMessageInRange (is_message_of_uid uid) (λ message. record message { words = words }) mailbox.messages (λ x e h. worded_fits x words are h) o.in_range)
+
 expunged_in_order : (mailbox : Mailbox) (uid : ℕ) → IsMailboxInOrder mailbox → IsMailboxInOrder (record mailbox { messages = without_first (is_message_of_uid uid) mailbox.messages })
 expunged_in_order mailbox uid o =
     with_messages mailbox (without_first (is_message_of_uid uid) mailbox.messages) o (pairs_without Rises (is_message_of_uid uid) mailbox.messages o.rising)
@@ -152,6 +162,11 @@ flagged_well : (lists : Lists) (name : List ℕ) (uid flags : ℕ) → flags ≤
 flagged_well lists name uid flags le w =
     changed_well lists (has_name name) (λ (mailbox : Mailbox). record mailbox { messages = change_first (is_message_of_uid uid) (λ message. record message { flags = flags }) mailbox.messages })
     (record { name = λ m. refl; number = λ m. refl; order = λ m e o. flagged_in_order m uid flags le o }) w
+
+worded_well : (lists : Lists) (name : List ℕ) (uid : ℕ) (words : List (List ℕ)) → AreWords words → AreWellFormed lists → AreWellFormed (set_words name uid words lists)
+worded_well lists name uid words are w =
+    changed_well lists (has_name name) (λ (mailbox : Mailbox). record mailbox { messages = change_first (is_message_of_uid uid) (λ message. record message { words = words }) mailbox.messages })
+    (record { name = λ m. refl; number = λ m. refl; order = λ m e o. worded_in_order m uid words are o }) w
 
 expunged_well : (lists : Lists) (test : Mailbox → Bool) (uid : ℕ) → AreWellFormed lists → AreWellFormed (change_first test (λ mailbox. record mailbox { messages = without_first (is_message_of_uid uid) mailbox.messages }) lists)
 expunged_well lists test uid w =
@@ -311,6 +326,7 @@ does_well : (run : Run) (event : RunEvent) (old : Lists) (q : Request) (part : E
 does_well run event old (request.List name) First (reply.Listed rows) new w f e d = subst AreWellFormed (sym d.3) w
 does_well run event old (request.Fetch name uid) First (reply.Fetched octets) new w f e d = subst AreWellFormed (sym d.3) w
 does_well run event old (request.Flag name uid flags) First reply.Done new w f e d = subst AreWellFormed (sym d) (flagged_well old name uid.0 flags f w)
+does_well run event old (request.Keywords name uid words) First reply.Done new w f e d = subst AreWellFormed (sym d) (worded_well old name uid.0 words f w)
 does_well run event old (request.Make name) Last reply.Done new w f e d = made_well run event old new name w f e d
 does_well run event old (request.Deliver name time octets) Last (reply.Saved uid own) new w f e d = delivered_well run event old new name time octets uid.0 own.0 w f e d
 does_well run event old (request.Copy name uid target) Last (reply.Copied given) new w f e d = copied_well run old new name uid.0 target given.0 w e d

@@ -91,6 +91,8 @@ does_one run event old (request.Fetch name uid) First (reply.Fetched octets) (re
 does_one run event old (request.Fetch name uid) First (reply.Fetched octets) s new other d e = absurd e
 does_one run event old (request.Flag name uid flags) First reply.Done reply.Done new other d e = (refl, d ∙ sym e)
 does_one run event old (request.Flag name uid flags) First reply.Done s new other d e = absurd e
+does_one run event old (request.Keywords name uid words) First reply.Done reply.Done new other d e = (refl, d ∙ sym e)
+does_one run event old (request.Keywords name uid words) First reply.Done s new other d e = absurd e
 does_one run event old (request.Make name) Last reply.Done reply.Done new other d e = (refl, made_one run event old name new other d e)
 does_one run event old (request.Make name) Last reply.Done s new other d e = absurd e
 does_one run event old (request.Deliver name time octets) Last (reply.Saved u g) (reply.Saved v h) new other d e =

@@ -4,7 +4,8 @@ use Rattle.std.specs.Prelude.{◌≡◌, ◌≤◌, ◌<◌, ◌+◌, ◌^◌, �
 use Rattle.std.specs.List.{list_any}
 use Rattle.std.specs.Option.{option_map_or, option_or}
 use Rattle.std.specs.Str.{bytes_eq}
-use Rattle.mdbox_base.specs.Words.{IsName, IsOctets}
+use Rattle.mdbox_base.specs.Words.{IsName, IsOctets, count_different}
+use Rattle.mdbox_base.specs.Keywords.{AreWords}
 use Rattle.mdbox_base.specs.declared.requests.Request.{Request}
 use Rattle.mdbox_base.specs.declared.requests.Request.TheVariants as request
 use Rattle.mdbox_base.specs.declared.replies.Refusal.{Refusal}
@@ -52,9 +53,12 @@ without_first test (x ∷ xs) = if test x then xs else x ∷ without_first test 
 abbrev pub change_messages : List ℕ → (List ListedMessage → List ListedMessage) → Lists → Lists
 change_messages name change lists = change_first (has_name name) (λ mailbox. record mailbox { messages = change mailbox.messages }) lists
 
--- a message has other flags, or leaves
+-- a message has other flags, or other keywords, or leaves
 abbrev pub set_flags : List ℕ → ℕ → ℕ → Lists → Lists
 set_flags name uid flags lists = change_messages name (change_first (is_message_of_uid uid) (λ message. record message { flags = flags })) lists
+
+abbrev pub set_words : List ℕ → ℕ → List (List ℕ) → Lists → Lists
+set_words name uid words lists = change_messages name (change_first (is_message_of_uid uid) (λ message. record message { words = words })) lists
 
 abbrev pub expunge : List ℕ → ℕ → Lists → Lists
 expunge name uid lists = change_messages name (without_first (is_message_of_uid uid)) lists
@@ -79,11 +83,6 @@ add_last message mailbox = record mailbox {
 
 abbrev pub add_message : List ℕ → ListedMessage → Lists → Lists
 add_message name message lists = change_first (has_name name) (add_last message) lists
-
--- how many different texts there are
-abbrev pub count_different : List (List ℕ) → ℕ
-count_different [] = 0
-count_different (text ∷ texts) = if list_any (bytes_eq text) texts then count_different texts else count_different texts + 1
 
 -- ---- refusals
 
@@ -168,6 +167,7 @@ part_checks run event (request.Deliver name time octets) part = deliver_checks n
 part_checks run event (request.List name) First = HasMailbox name ∷ []
 part_checks run event (request.Fetch name uid) First = HasMailbox name ∷ HasUid name uid.0 ∷ []
 part_checks run event (request.Flag name uid flags) First = HasMailbox name ∷ HasUid name uid.0 ∷ []
+part_checks run event (request.Keywords name uid words) First = HasMailbox name ∷ HasUid name uid.0 ∷ []
 part_checks run event (request.Copy name uid target) part = copy_checks name uid.0 target part
 part_checks run event (request.Move name uid target) part = copy_checks name uid.0 target part
 part_checks run event (request.Expunge name uid) First = HasMailbox name ∷ HasUid name uid.0 ∷ []
@@ -245,6 +245,7 @@ Does run event old (request.List name) First (reply.Listed rows) new =
 Does run event old (request.Fetch name uid) First (reply.Fetched octets) new =
     (message : ListedMessage) × (message_at name uid.0 old ≡ Some message) × (octets ≡ message.octets) × (new ≡ old)
 Does run event old (request.Flag name uid flags) First reply.Done new = new ≡ set_flags name uid.0 flags old
+Does run event old (request.Keywords name uid words) First reply.Done new = new ≡ set_words name uid.0 words old
 Does run event old (request.Make name) Last reply.Done new = IsMade run event old name new
 Does run event old (request.Delete name) First reply.Done new = new ≡ delete_mailbox name old
 Does run event old (request.Rename name target) First reply.Done new = new ≡ rename_mailbox name target old
@@ -280,12 +281,13 @@ is_step refusal = true
 
 -- ---- requests
 
--- A request that can be asked: the new name of a mailbox is one, flags are bits below 32, a delivery's time has 64 bits
--- and its message at most 67,108,864 octets.
+-- A request that can be asked: the new name of a mailbox is one, flags are bits below 32, keywords are those of a message, a
+-- delivery's time has 64 bits and its message at most 67,108,864 octets.
 abbrev pub RequestInRange : Request → Type 0
 RequestInRange (request.Make name) = IsName name
 RequestInRange (request.Rename name target) = IsName target
 RequestInRange (request.Flag name uid flags) = flags ≤ 31
+RequestInRange (request.Keywords name uid words) = AreWords words
 RequestInRange (request.Deliver name time octets) = (time < 2 ^ 64) × (length octets ≤ 67108864)
 RequestInRange request = Unit {0}
 

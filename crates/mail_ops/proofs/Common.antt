@@ -17,9 +17,9 @@ pub use Rattle.journal.proofs.OwnEventLemmas.{own_more, own_other}
 pub use Rattle.journal.specs.Events.{Around, is_elsewhere, last_refusal, next_part}
 pub use Rattle.journal.specs.Journal.{IsReplyOf, halves_of}
 pub use Rattle.list_machine.proofs.MachineOrderLemmas.{answers_well}
-pub use Rattle.list_machine.specs.Machine.{HasMailbox, HasUid, PartAnswers, count_different, first_refusal, is_step, mailbox_named, message_in, part_checks, refused_where}
+pub use Rattle.list_machine.specs.Machine.{HasMailbox, HasUid, PartAnswers, first_refusal, is_step, mailbox_named, message_in, part_checks, refused_where}
 pub use Rattle.list_machine.specs.Run.{BoxAppend, EventPart, First, GivesBack, Last, Run, RunEvent, StartsOver, and_then, drawn_also, event_of, map_of, own_events, source_of, uid_copied}
-pub use Rattle.mdbox_base.specs.Words.{IsNumber}
+pub use Rattle.mdbox_base.specs.Words.{IsNumber, count_different}
 pub use Rattle.mdbox_base.specs.declared.entries.BoxEntry.{BoxEntry}
 pub use Rattle.mdbox_base.specs.declared.entries.Highest.{Highest}
 pub use Rattle.mdbox_base.specs.declared.entries.MapEntry.{MapEntry}

@@ -66,14 +66,14 @@ pub record AppendsFlag (old new : Seen) (number : ℕ) (uid : Uid) (bits : ℕ) 
 abbrev pub flag_event : ℕ → ℕ → List BoxAppend → ℕ → RunEvent
 flag_event lane place entries calls = record (event_of lane place First calls) { reply = Some reply.Done; box_entries = entries }
 
-some_mailbox : (run : Run) (name : List ℕ) (lists : Lists) (rest : Option Refusal) → option_or (refusal_at run lists (HasMailbox name)) rest ≡ None → (mailbox : Mailbox) × (mailbox_named name lists ≡ Some mailbox)
+pub some_mailbox : (run : Run) (name : List ℕ) (lists : Lists) (rest : Option Refusal) → option_or (refusal_at run lists (HasMailbox name)) rest ≡ None → (mailbox : Mailbox) × (mailbox_named name lists ≡ Some mailbox)
 some_mailbox run name lists rest e = by_option (mailbox_named name lists) refl e
   where
     by_option : (o : Option Mailbox) → mailbox_named name lists ≡ o → option_or (refused_where (is_none o) refusal.NoMailbox) rest ≡ None → (mailbox : Mailbox) × (mailbox_named name lists ≡ Some mailbox)
     by_option None h f = absurd (let k : Some refusal.NoMailbox ≡ None = f in cc k)
     by_option (Some mailbox) h f = (mailbox, h)
 
-done_runs : Some reply.Done ≡ Some (reply.Refused refusal.Stopped) → ⊥
+pub done_runs : Some reply.Done ≡ Some (reply.Refused refusal.Stopped) → ⊥
 done_runs e = let k : reply.Done ≡ reply.Refused refusal.Stopped = cc e in cc k
 
 pub shown_on : (old new : Seen) (meanings : List BoxMeaning) (lists : Lists) → new.map ≡ old.map → new.meanings ≡ meanings → ShowLists old.map.boxes meanings lists → ShowLists new.map.boxes new.meanings lists

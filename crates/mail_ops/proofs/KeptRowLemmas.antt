@@ -3,7 +3,7 @@ use Rattle.mail_ops.proofs.Common.{◌≡◌, ◌<◌, ◌==◌, ℕ, Bool, true
 use Rattle.std.proofs.lemmas.List.Folds.{find-append}
 use Rattle.mdbox_base.specs.declared.entries.BoxEntry.TheVariants as entry
 use Rattle.mdbox_base.specs.declared.ids.Guid.{Guid}
-use Rattle.model_meaning.proofs.AppliedLemmas.{rows_by_added, rows_by_flagged, rows_by_removed}
+use Rattle.model_meaning.proofs.AppliedLemmas.{rows_by_added, rows_by_flagged, rows_by_removed, rows_by_worded}
 
 -- the row that was found before, of one that is found behind the entry
 abbrev pub WasListed : List LogRow → ℕ → LogRow → Type 0
@@ -77,6 +77,29 @@ found_flagged u flags uid (r ∷ rs) row there = by_flag (u.0 == r.uid) there (�
 
 pub flagging_keeps : (u : Uid) (flags : ℕ) (m : BoxMeaning) → KeepsRows (entry.F u flags) m
 flagging_keeps u flags m uid row below there = found_flagged u flags uid m.rows row (sym (ap (find (λ r. r.uid == uid)) (rows_by_flagged u flags m.rows)) ∙ there)
+
+-- ---- its keywords change
+
+worded_row : (was row : LogRow) (words : List (List ℕ)) → Some (record was { words = words }) ≡ Some row → was.map_uid ≡ row.map_uid
+worded_row was row words e = let k : record was { words = words } ≡ row = cc e in ap (λ (r : LogRow). r.map_uid) k
+
+found_worded : (u : Uid) (words : List (List ℕ)) (uid : ℕ) (rows : List LogRow) (row : LogRow) → find (λ r. r.uid == uid) (map (row_changed (entry.K u words)) rows) ≡ Some row → WasListed rows uid row
+found_worded u words uid [] row there = absurd (nothing_found row there)
+found_worded u words uid (r ∷ rs) row there = by_words (u.0 == r.uid) there (λ k. found_worded u words uid rs row k)
+  where
+    later : Option LogRow
+    later = find (λ x. x.uid == uid) (map (row_changed (entry.K u words)) rs)
+
+    by_uid : (s : Bool) (now : LogRow) → (Some now ≡ Some row → r.map_uid ≡ row.map_uid) → cond s (Some now) later ≡ Some row → (later ≡ Some row → WasListed rs uid row) → (was : LogRow) × (cond s (Some r) (find (λ x. x.uid == uid) rs) ≡ Some was) × (was.map_uid ≡ row.map_uid)
+    by_uid true now same k rest = (r, refl, same k)
+    by_uid false now same k rest = rest k
+
+    by_words : (t : Bool) → find (λ x. x.uid == uid) (cond t (record r { words = words }) r ∷ map (row_changed (entry.K u words)) rs) ≡ Some row → (later ≡ Some row → WasListed rs uid row) → WasListed (r ∷ rs) uid row
+    by_words true k rest = by_uid (r.uid == uid) (record r { words = words }) (worded_row r row words) k rest
+    by_words false k rest = by_uid (r.uid == uid) r (same_row r row) k rest
+
+pub wording_keeps : (u : Uid) (words : List (List ℕ)) (m : BoxMeaning) → KeepsRows (entry.K u words) m
+wording_keeps u words m uid row below there = found_worded u words uid m.rows row (sym (ap (find (λ r. r.uid == uid)) (rows_by_wordsged u words m.rows)) ∙ there)
 
 -- ---- a message is added
 

@@ -6,7 +6,7 @@ use Rattle.std.specs.Option.{IfSome}
 use Rattle.mdbox_base.specs.declared.entries.BoxEntry.TheVariants as box_entry
 use Rattle.model_meaning.specs.MapMeaning.{numbers_of}
 use Rattle.store_core.specs.Value.{list_numbered}
-use Rattle.mail_ops.proofs.KeptRowLemmas.{KeepsRows, WasListed, addition_keeps, flagging_keeps, removal_keeps}
+use Rattle.mail_ops.proofs.KeptRowLemmas.{KeepsRows, WasListed, addition_keeps, flagging_keeps, removal_keeps, wording_keeps}
 
 -- ---- by number
 
@@ -109,3 +109,6 @@ removal_left number uid m old new before after began now numbered t = entry_keep
 
 pub flags_left : {D : Type 0} → (number : ℕ) (uid : Uid) (flags : ℕ) (m : BoxMeaning) (old new : StoreValue D) → new.map ≡ old.map → indexes_of new.boxes ≡ meanings_by number (box_entry.F uid flags) old.map.boxes (indexes_of old.boxes) → list_numbered old number ≡ Some m → KeepsUids old new
 flags_left number uid flags m old new map_is taken numbered = entry_keeps number (box_entry.F uid flags) m old new map_is taken numbered (flagging_keeps uid flags m)
+
+pub words_left : {D : Type 0} → (number : ℕ) (uid : Uid) (words : List (List ℕ)) (m : BoxMeaning) (old new : StoreValue D) → new.map ≡ old.map → indexes_of new.boxes ≡ meanings_by number (box_entry.K uid words) old.map.boxes (indexes_of old.boxes) → list_numbered old number ≡ Some m → KeepsUids old new
+words_left number uid words m old new map_is taken numbered = entry_keeps number (box_entry.K uid words) m old new map_is taken numbered (wording_keeps uid words m)

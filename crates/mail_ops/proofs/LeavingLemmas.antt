@@ -27,7 +27,7 @@ use Rattle.mail_ops.specs.Messages.{IsRowIn}
 use Rattle.task_claims.proofs.NameLemmas.{names_stay}
 use Rattle.mail_ops.proofs.KeptUidLemmas.{addition_left, highest_rises, removal_left, same_highest, took_keeps}
 use Rattle.mail_ops.proofs.MessageLemmas.{record_in, row_in}
-use Rattle.mail_ops.proofs.UnlistedLemmas.{addition_lists, entry_refs, flag_lists, listed_counts, removal_lists}
+use Rattle.mail_ops.proofs.UnlistedLemmas.{addition_lists, entry_refs, flag_lists, listed_counts, removal_lists, words_list}
 
 -- ---- records that no mailbox lists
 
@@ -143,7 +143,7 @@ unremoved_leaves history mine name uid (not_done.Refused why) old new began now 
 unremoved_leaves history mine name uid not_done.NoMemory old new began now runs r = same_leaves history mine old new r.0
 unremoved_leaves history mine name uid not_done.Stopped old new began now runs r = absurd (fall new.stopped r.fell.stopped runs)
 
--- ---- flags
+-- ---- flags and keywords
 
 pub flag_leaves : {D : Type 0} → (number : ℕ) (uid : Uid) (flags : ℕ) (old new : StoreValue D) (before after : Option History) → new.map ≡ old.map → new.files ≡ old.files → new.instances ≡ old.instances → indexes_of new.boxes ≡ meanings_by number (box_entry.F uid flags) old.map.boxes (indexes_of old.boxes)
     → KeepsMail before after → KeepsUids old new → old.map_log.room ≤ new.map_log.room → new.made ≡ old.made → old.map_log.end ≤ new.map_log.end → ((other : ℕ) → due_at other new ≡ due_at other old) → LeavesOthers no_claims old new before after
@@ -152,6 +152,16 @@ flag_leaves number uid flags old new before after map_is files instances taken m
     (λ other rec none found listed. (
       none_more (references_to new rec.guid) (references_to old rec.guid)
           (subst (λ (ms : List BoxMeaning). refs_in ms rec.guid ≤ references_to old rec.guid) (sym taken) (entry_refs rec.guid number (box_entry.F uid flags) old.map.boxes (indexes_of old.boxes) (flag_lists rec.guid uid flags))) listed,
+      due other,
+    ))
+
+pub words_leave : {D : Type 0} → (number : ℕ) (uid : Uid) (words : List (List ℕ)) (old new : StoreValue D) (before after : Option History) → new.map ≡ old.map → new.files ≡ old.files → new.instances ≡ old.instances → indexes_of new.boxes ≡ meanings_by number (box_entry.K uid words) old.map.boxes (indexes_of old.boxes)
+    → KeepsMail before after → KeepsUids old new → old.map_log.room ≤ new.map_log.room → new.made ≡ old.made → old.map_log.end ≤ new.map_log.end → ((other : ℕ) → due_at other new ≡ due_at other old) → LeavesOthers no_claims old new before after
+words_leave number uid words old new before after map_is files instances taken mail keeps room made end due =
+    rest_leaves no_claims old new before after files instances (mail_same before after mail) (same_map old.map new.map map_is) (unraised_same old.map new.map (ap (λ (m : MapMeaning). m.records) map_is)) (same_highest old.map new.map map_is) end (inl (names_stay_same old.map new.map map_is)) (gone_stays old new (ap (λ (m : MapMeaning). m.boxes) map_is) made (same_highest old.map new.map map_is)) keeps room
+    (λ other rec none found listed. (
+      none_more (references_to new rec.guid) (references_to old rec.guid)
+          (subst (λ (ms : List BoxMeaning). refs_in ms rec.guid ≤ references_to old rec.guid) (sym taken) (entry_refs rec.guid number (box_entry.K uid words) old.map.boxes (indexes_of old.boxes) (words_list rec.guid uid words))) listed,
       due other,
     ))
 

@@ -50,3 +50,5 @@ pub mod StableLemmas
 pub mod StageLemmas
 pub mod ToldLemmas
 pub mod UnlistedLemmas
+pub mod WordsEventLemmas
+pub mod WordsListLemmas

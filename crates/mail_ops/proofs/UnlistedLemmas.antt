@@ -4,7 +4,7 @@ use Rattle.mail_ops.proofs.Common.{MapBox, meaning_numbered, refs_in}
 use Rattle.std.proofs.lemmas.List.Sums.{sum_by-append}
 use Rattle.mdbox_base.specs.declared.entries.BoxEntry.TheVariants as box_entry
 use Rattle.mdbox_base.specs.declared.ids.Guid.{Guid}
-use Rattle.model_meaning.proofs.AppliedLemmas.{rows_by_added, rows_by_flagged, rows_by_removed}
+use Rattle.model_meaning.proofs.AppliedLemmas.{rows_by_added, rows_by_flagged, rows_by_removed, rows_by_worded}
 
 abbrev pub has_guid : List ℕ → LogRow → Bool
 has_guid guid row = bytes_eq row.guid guid
@@ -42,6 +42,20 @@ flag_count guid uid flags (r ∷ rs) =
 
 pub flag_lists : (guid : List ℕ) (uid : Uid) (flags : ℕ) → ListsNoMore guid (box_entry.F uid flags)
 flag_lists guid uid flags m = let e = ap (λ (rows : List LogRow). count_by (has_guid guid) rows) (rows_by_flagged uid flags m.rows) ∙ flag_count guid uid flags m.rows in omega (arith, e)
+
+words_count : (guid : List ℕ) (uid : Uid) (words : List (List ℕ)) (rows : List LogRow) → count_by (has_guid guid) (map (row_changed (box_entry.K uid words)) rows) ≡ count_by (has_guid guid) rows
+words_count guid uid words [] = refl
+words_count guid uid words (r ∷ rs) =
+    counted guid (row_changed (box_entry.K uid words) r) (map (row_changed (box_entry.K uid words)) rs)
+    ∙ (ap (λ (n : ℕ). cond (has_guid guid (row_changed (box_entry.K uid words) r)) 1 0 + n) (words_count guid uid words rs)
+    ∙ (ap (λ (g : List ℕ). cond (bytes_eq g guid) 1 0 + count_by (has_guid guid) rs) (same (uid.0 == r.uid)) ∙ sym (counted guid r rs)))
+  where
+    same : (t : Bool) → (cond t (record r { words = words }) r).guid ≡ r.guid
+    same true = refl
+    same false = refl
+
+pub words_list : (guid : List ℕ) (uid : Uid) (words : List (List ℕ)) → ListsNoMore guid (box_entry.K uid words)
+words_list guid uid words m = let e = ap (λ (rows : List LogRow). count_by (has_guid guid) rows) (rows_by_worded uid words m.rows) ∙ words_count guid uid words m.rows in omega (arith, e)
 
 pub addition_lists : (guid : List ℕ) (uid : Uid) (flags time size : ℕ) (map_uid : MapUid) (given : Guid) (words : List (List ℕ)) → bytes_eq given.0 guid ≡ false → ListsNoMore guid (box_entry.A uid flags time size map_uid given words)
 addition_lists guid uid flags time size map_uid given words other m =

@@ -1,4 +1,4 @@
--- What the tasks of requests on mailboxes claim of a store. Listings, counts and those that set flags claim nothing.
+-- What the tasks of requests on mailboxes claim of a store. Listings, counts and those that set flags or keywords claim nothing.
 use Rattle.std.specs.Prelude.{◌==◌, ℕ}
 use Rattle.task_claims.specs.Claims.{Claims, Made, claims_of_dues, one_if}
 use Rattle.mail_ops.specs.Copy.{copy_dues}

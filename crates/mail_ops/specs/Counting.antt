@@ -3,7 +3,7 @@ use Rattle.std.specs.Prelude.{ℕ, List, length, map, sum_by, if◌then◌else�
 use Rattle.mdbox_base.specs.declared.replies.Refusal.TheVariants as refusal
 use Rattle.mdbox_base.specs.declared.replies.Reply.{Reply}
 use Rattle.mdbox_base.specs.declared.replies.Reply.TheVariants as reply
-use Rattle.list_machine.specs.Machine.{count_different}
+use Rattle.mdbox_base.specs.Words.{count_different}
 use Rattle.model_meaning.specs.MapMeaning.{MapMeaning, named_instances}
 use Rattle.store_core.specs.Value.{StoreValue, indexes_of}
 

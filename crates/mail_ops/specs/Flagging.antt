@@ -6,7 +6,7 @@ use Rattle.mdbox_base.specs.declared.replies.Refusal.TheVariants as refusal
 use Rattle.model_meaning.specs.BoxMeaning.{row_at}
 use Rattle.store_core.specs.Value.{StoreValue, list_named}
 
--- why flags aren't set: the store is stopped, no mailbox has the name, or no message of it has the UID
+-- why flags aren't set, and keywords: the store is stopped, no mailbox has the name, or no message of it has the UID
 abbrev pub flag_refusal : {D : Type 0} → List ℕ → ℕ → StoreValue D → Option Refusal
 flag_refusal name uid store =
     if store.stopped then Some refusal.Stopped else option_map_or (λ m. if is_some (row_at m uid) then None else Some refusal.NoMessage) (list_named store name) (Some refusal.NoMailbox)

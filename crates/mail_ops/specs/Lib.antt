@@ -21,4 +21,5 @@ pub mod Renaming
 pub mod Requests
 pub mod SparedMail
 pub mod Task
+pub mod Wording
 pub mod Claims

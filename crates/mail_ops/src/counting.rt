@@ -5,7 +5,7 @@ ghost use Rattle.std.specs.Cmp.Lexicographic.{slice_cmp};
 ghost use Rattle.std.specs.Option.{option_map, option_map_or};
 ghost use Rattle.std.specs.Ordering.{nat_cmp};
 ghost use Rattle.journal.specs.Events.{Around};
-ghost use Rattle.list_machine.specs.Machine.{count_different};
+ghost use Rattle.mdbox_base.specs.Words.{count_different};
 ghost use Rattle.mdbox_base.specs.declared.progress.Did.TheVariants as did;
 ghost use Rattle.mdbox_base.specs.declared.progress.Progress.TheVariants as progress;
 ghost use Rattle.mdbox_base.specs.declared.replies.Refusal.TheVariants as refusal;

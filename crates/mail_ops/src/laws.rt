@@ -3,13 +3,13 @@ ghost use Rattle.std.specs.Prelude.{◌≡◌, ℕ, List, [], find, Option, Some
 ghost use Rattle.std.specs.Option.{option_map};
 ghost use Rattle.std.specs.Str.{bytes_eq};
 ghost use Rattle.disk_model.specs.Disk.{History};
-ghost use Rattle.list_machine.specs.Machine.{PartAnswers, set_flags};
+ghost use Rattle.list_machine.specs.Machine.{PartAnswers, set_flags, set_words};
 ghost use Rattle.list_machine.specs.Run.{First, RunEvent, Run};
-ghost use Rattle.mdbox_base.specs.declared.entries.BoxEntry.TheVariants.{F};
+ghost use Rattle.mdbox_base.specs.declared.entries.BoxEntry.TheVariants.{F, K};
 ghost use Rattle.mdbox_base.specs.declared.ids.Uid.{Uid};
 ghost use Rattle.mdbox_base.specs.declared.replies.Refusal.TheVariants.{NoMailbox, NoMessage};
 ghost use Rattle.mdbox_base.specs.declared.replies.Reply.TheVariants.{Refused, Done};
-ghost use Rattle.mdbox_base.specs.declared.requests.Request.TheVariants.{List as ListBox, Flag};
+ghost use Rattle.mdbox_base.specs.declared.requests.Request.TheVariants.{List as ListBox, Flag, Keywords};
 ghost use Rattle.model_appends.specs.Appending.{lists_by, meanings_by};
 ghost use Rattle.model_lists.specs.Lists.{Lists, AreWellFormed};
 ghost use Rattle.model_meaning.specs.BoxMeaning.{LogRow, BoxMeaning, row_at};
@@ -93,4 +93,17 @@ pub fn flags_are_shown()
         → (lists_by number [] (F uid flags) lists ≡ set_flags name uid.0 flags lists) × PartAnswers run event lists (Flag name uid flags) First Done (set_flags name uid.0 flags lists) }
     ensures shown { (number : ℕ) (octets : List ℕ) (uid : Uid) (flags : ℕ) (boxes : List MapBox) (meanings : List BoxMeaning) (lists : Lists) → ShowLists boxes meanings lists
         → ShowLists boxes (meanings_by number (F uid flags) boxes meanings) (lists_by number octets (F uid flags) lists) }
+{}
+
+/// So are keywords.
+pub fn words_are_shown()
+    ensures no_mailbox { (run : Run) (event : RunEvent) (boxes : List MapBox) (meanings : List BoxMeaning) (lists : Lists) (name : List ℕ) (uid : Uid) (words : List (List ℕ)) → ShowLists boxes meanings lists → meaning_named name boxes meanings ≡ None
+        → PartAnswers run event lists (Keywords name uid words) First (Refused NoMailbox) lists }
+    ensures no_message { (run : Run) (event : RunEvent) (boxes : List MapBox) (meanings : List BoxMeaning) (lists : Lists) (name : List ℕ) (uid : Uid) (words : List (List ℕ)) (m : BoxMeaning) → ShowLists boxes meanings lists → meaning_named name boxes meanings ≡ Some m
+        → row_at m uid.0 ≡ None → PartAnswers run event lists (Keywords name uid words) First (Refused NoMessage) lists }
+    ensures worded { (run : Run) (event : RunEvent) (boxes : List MapBox) (meanings : List BoxMeaning) (lists : Lists) (name : List ℕ) (number : ℕ) (uid : Uid) (words : List (List ℕ)) (m : BoxMeaning) (row : LogRow) → AreWellFormed lists → ShowLists boxes meanings lists
+        → meaning_named name boxes meanings ≡ Some m → row_at m uid.0 ≡ Some row → option_map (λ b. b.number) (find (λ b. bytes_eq b.name name) boxes) ≡ Some number
+        → (lists_by number [] (K uid words) lists ≡ set_words name uid.0 words lists) × PartAnswers run event lists (Keywords name uid words) First Done (set_words name uid.0 words lists) }
+    ensures shown { (number : ℕ) (octets : List ℕ) (uid : Uid) (words : List (List ℕ)) (boxes : List MapBox) (meanings : List BoxMeaning) (lists : Lists) → ShowLists boxes meanings lists
+        → ShowLists boxes (meanings_by number (K uid words) boxes meanings) (lists_by number octets (K uid words) lists) }
 {}

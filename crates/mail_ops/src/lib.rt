@@ -9,7 +9,7 @@ pub use expunging::{ExpungeStage, ExpungeTask};
 pub use laws::{
     copy_stages_are_kept, delete_stages_are_kept, expunge_stages_are_kept, flags_are_shown,
     listings_are_answered, make_stages_are_kept, move_stages_are_kept, ready_tasks_are_stable,
-    task_stages_are_kept,
+    task_stages_are_kept, words_are_shown,
 };
 pub use lowering::Lowering;
 pub use making::{MakeStage, MakeTask};
@@ -34,3 +34,4 @@ mod message;
 mod moving;
 mod renaming;
 mod task;
+mod wording;

@@ -18,6 +18,7 @@ ghost use Rattle.mail_ops.specs.declared.task.TaskStage.TheVariants as stage;
 
 use crate::flagging::flag;
 use crate::listing::list;
+use crate::wording::give_words;
 use disk_model::Disk;
 use mdbox_base::{Did, Progress, Reply, Request};
 use std::marker::Model;
@@ -50,7 +51,7 @@ impl Model for OpsTask {
 }
 
 impl OpsTask {
-    /// The task of a request: a listing, or one that sets flags.
+    /// The task of a request: a listing, or one that sets flags or keywords.
     pub fn of(request: Request) -> OpsTask
         requires { IsOpsRequest request }
         ensures { result ≡ record { request = request; stage = stage.First; did = did.Quiet } }
@@ -105,6 +106,7 @@ fn only_event<D: Disk>(store: &mut Store<D>, request: &Request) -> (Reply, Did)
     match request {
         Request::List { name } => list(store, name),
         Request::Flag { name, uid, flags } => flag(store, name, *uid, *flags),
+        Request::Keywords { name, uid, words } => give_words(store, name, *uid, words),
         _ => unreachable!(),
     }
 }

@@ -1,9 +1,16 @@
 -- Plain words on octets and numbers.
-use Rattle.std.specs.Prelude.{ℕ, Bool, not, ◌==◌, ◌<◌, ◌≤◌, List, length, All, ◌≢◌, IsUtf8}
+use Rattle.std.specs.Prelude.{ℕ, Bool, not, ◌==◌, ◌<◌, ◌≤◌, ◌+◌, List, [], ◌∷◌, length, All, if◌then◌else◌, ◌≢◌, IsUtf8}
+use Rattle.std.specs.List.{list_any}
+use Rattle.std.specs.Str.{bytes_eq}
 
 -- each is an octet
 abbrev pub IsOctets : List ℕ → Type 0
 IsOctets text = All (λ octet. octet < 256) text
+
+-- how many different texts there are
+abbrev pub count_different : List (List ℕ) → ℕ
+count_different [] = 0
+count_different (text ∷ texts) = if list_any (bytes_eq text) texts then count_different texts else count_different texts + 1
 
 -- an octet isn't this mark
 abbrev pub is_other_than : ℕ → ℕ → Bool

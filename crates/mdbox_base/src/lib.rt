@@ -19,7 +19,7 @@ pub use requests::Request;
 pub use script::{Half, JournalEntry, Script};
 pub use seq::Seq;
 pub use stream::{InputError, Sink, SinkFault, Source, SourceFault, give_all, read_all};
-pub use words::{Words, are_words, copied_texts};
+pub use words::{Words, are_words, copied_texts, is_keyword, words_of};
 
 mod clock;
 mod entries;

@@ -3,6 +3,7 @@ use crate::flags::Flags;
 use crate::ids::Uid;
 use crate::name::Name;
 use crate::octets::Octets;
+use crate::words::Words;
 
 /// What a user asks of the store.
 #[derive(Drop)]
@@ -24,6 +25,12 @@ pub enum Request {
         name: Name,
         uid: Uid,
         flags: Flags,
+    },
+    /// Gives a message these keywords, and no others.
+    Keywords {
+        name: Name,
+        uid: Uid,
+        words: Words,
     },
     Copy {
         name: Name,

@@ -1,15 +1,21 @@
 // Keywords of messages.
-ghost use Rattle.std.specs.Prelude.{◌≡◌, ◌≢◌, ◌≤◌, ◌↔◌, [], ℕ, List, All, AllPairs, IsTrue, IsErr, IfOk};
+ghost use Rattle.std.specs.Prelude.{◌≡◌, ◌≢◌, ◌≤◌, ◌↔◌, [], ℕ, false, List, length, All, AllPairs, IsTrue, IsErr, IfOk, IfSome, IfNone};
 ghost use Rattle.std.specs.Cmp.Lexicographic.{slice_cmp};
 ghost use Rattle.std.specs.Ordering.{nat_cmp, is_lt};
 ghost use Rattle.std.specs.declared.cmp.Ordering.TheVariants.{Less};
-ghost use Rattle.mdbox_base.specs.Keywords.{IsAtomOctet, IsKeyword, AreWords};
+ghost use Rattle.std.specs.List.{list_any};
+ghost use Rattle.std.specs.Str.{bytes_eq};
+ghost use Rattle.mdbox_base.specs.Keywords.{IsAtomOctet, IsKeyword, AreWords, AreWordsOf, AreWordsWith, CanBeWords};
 
 use crate::memory::NoMemory;
 use crate::octets::Octets;
 use crate::seq::Seq;
 use std::alloc::Global;
+use std::cmp::Ordering;
 use std::marker::Model;
+
+/// The most keywords of a message.
+const MOST_WORDS: usize = 32;
 
 /// The keywords of a message (RFC 9051, section 2.3.2): at most 32 atoms of 1 to 64 octets each, in rising order of octets.
 #[derive(Drop)]
@@ -93,17 +99,56 @@ fn copied_text(alloc: Global, text: &Octets) -> Result<Octets, NoMemory>
     Ok(copy)
 }
 
+/// The keywords that these texts are, in any order and with repeats: none if one isn't a keyword, or more than 32 are
+/// different.
+pub fn words_of(alloc: Global, texts: &Seq<Octets>) -> Result<Option<Words>, NoMemory>
+    ensures some { IfOk result (λ found. IfSome found (λ words. AreWordsOf texts.now words × CanBeWords texts.now)) }
+    ensures none { IfOk result (λ found. IfNone found (CanBeWords texts.now → ⊥)) }
+    ensures memory { IsErr result → texts.now ≢ [] }
+{
+    let mut words = Vec::new(alloc);
+    for text in texts.as_slice() {
+        if !is_word(text) || !add_word(alloc, &mut words, text)? {
+            return Ok(None);
+        }
+    }
+    Ok(Some(Words::of(Seq::of(words))))
+}
+
+/// Puts a text among keywords that rise, at its place, unless it is there. False if there would be 33.
+fn add_word(alloc: Global, words: &mut Vec<Octets>, text: &Octets) -> Result<bool, NoMemory>
+    requires rising { AllPairs (λ a b. slice_cmp nat_cmp a b ≡ Less) words.old.items }
+    requires few { length words.old.items ≤ 32 }
+    ensures there { IfOk result (λ there. IsTrue there → AreWordsWith text.now words.old.items words.new.items) }
+    ensures full { IfOk result (λ there. there ≡ false → (length words.old.items ≡ 32) × (list_any (bytes_eq text.now) words.old.items ≡ false)) }
+{
+    match words.binary_search_by(|word| order_of(word, text)) {
+        Ok(_) => Ok(true),
+        Err(_) if words.len() >= MOST_WORDS => Ok(false),
+        Err(place) => {
+            words.insert(place, copied_text(alloc, text)?)?;
+            Ok(true)
+        }
+    }
+}
+
 /// Whether these texts are the keywords of a message.
 pub fn are_words(texts: &[Octets]) -> bool
     ensures { IsTrue result ↔ AreWords texts.now }
 {
-    texts.len() <= 32 && texts.iter().all(is_keyword) && is_rising(texts)
+    texts.len() <= MOST_WORDS && texts.iter().all(is_word) && is_rising(texts)
 }
 
-fn is_keyword(text: &Octets) -> bool
+fn is_word(text: &Octets) -> bool
     ensures { IsTrue result ↔ IsKeyword text.now }
 {
-    let octets = text.as_slice();
+    is_keyword(text.as_slice())
+}
+
+/// Whether these octets are a keyword.
+pub fn is_keyword(octets: &[u8]) -> bool
+    ensures { IsTrue result ↔ IsKeyword octets.now }
+{
     (1..=64).contains(&octets.len()) && octets.iter().all(|octet| is_atom_octet(*octet))
 }
 
@@ -128,4 +173,10 @@ fn comes_before(a: &Octets, b: &Octets) -> bool
     ensures { result ≡ is_lt (slice_cmp nat_cmp a.now b.now) }
 {
     a.as_slice() < b.as_slice()
+}
+
+fn order_of(a: &Octets, b: &Octets) -> Ordering
+    ensures { result ≡ slice_cmp nat_cmp a.now b.now }
+{
+    a.as_slice().cmp(b.as_slice())
 }

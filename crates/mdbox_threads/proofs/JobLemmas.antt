@@ -35,6 +35,7 @@ no_message (request.Deliver name time message) unlike = absurd (unlike name time
 no_message (request.List name) unlike = refl
 no_message (request.Fetch name uid) unlike = refl
 no_message (request.Flag name uid flags) unlike = refl
+no_message (request.Keywords name uid words) unlike = refl
 no_message (request.Copy name uid target) unlike = refl
 no_message (request.Move name uid target) unlike = refl
 no_message (request.Expunge name uid) unlike = refl

@@ -329,6 +329,7 @@ alone_done request.Purge prepared given old new began now w k message answer sho
 alone_done (request.List name) prepared given old new began now w k message answer show = done_alone (request.List name) given old new began now w tt answer
 alone_done (request.Flag name uid flags) prepared given old new began now w k message answer show = done_alone (request.Flag name uid flags) given old new began now w tt answer
 alone_done (request.Expunge name uid) prepared given old new began now w k message answer show = done_alone (request.Expunge name uid) given old new began now w tt answer
+alone_done (request.Keywords name uid words) prepared given old new began now w k message answer show = done_alone (request.Keywords name uid words) given old new began now w tt answer
 alone_done (request.Copy name uid target) prepared given old new began now w k message answer show = done_alone (request.Copy name uid target) given old new began now w tt answer
 alone_done (request.Move name uid target) prepared given old new began now w k message answer show = done_alone (request.Move name uid target) given old new began now w tt answer
 alone_done (request.Make name) prepared given old new began now w k message answer show = done_alone (request.Make name) given old new began now w tt answer

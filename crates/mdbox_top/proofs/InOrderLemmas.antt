@@ -14,7 +14,7 @@ use Rattle.exercise_course.proofs.LegalLemmas.{messages_alike, octets_alike, scr
 use Rattle.mdbox_base.specs.declared.replies.Refusal.TheVariants as refusal
 use Rattle.mdbox_base.specs.declared.replies.Reply.{Reply}
 use Rattle.mdbox_base.specs.declared.replies.Reply.TheVariants as reply
-use Rattle.list_machine.specs.Machine.{count_different}
+use Rattle.mdbox_base.specs.Words.{count_different}
 use Rattle.mdbox_base.specs.declared.entries.Highest.{Highest}
 use Rattle.mdbox_base.specs.declared.entries.InstRow.{InstRow}
 use Rattle.mdbox_base.specs.declared.script.Script.{Script}

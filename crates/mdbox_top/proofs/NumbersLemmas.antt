@@ -15,7 +15,7 @@ use Rattle.model_lists.specs.Lists.{ListedMessage, Lists, Mailbox, listing_row}
 use Rattle.model_meaning.specs.BoxMeaning.{BoxMeaning, LogRow}
 use Rattle.model_meaning.specs.MapMeaning.{MapBox, MapMeaning}
 use Rattle.model_store.specs.Listing.{ShowLists, listed_row}
-use Rattle.list_machine.specs.Machine.{count_different}
+use Rattle.mdbox_base.specs.Words.{count_different}
 use Rattle.mail_ops.specs.Counting.{counts_reply, listed_messages, named_ids}
 use Rattle.mail_ops.proofs.CountingLemmas.{shown_many, sum_one}
 use Rattle.store_core.specs.Value.{StoreValue}

@@ -46,6 +46,7 @@ use Rattle.mdbox_top.specs.Changed.{ChangeMoments, ChangeRests, LeavesMail, Open
 use Rattle.mdbox_top.specs.CopyRun.{IsCopyReply}
 use Rattle.mdbox_top.specs.DeleteRun.{IsDeleteReply}
 use Rattle.mdbox_top.specs.ExpungeRun.{IsExpungeReply, lists_without_message}
+use Rattle.mdbox_top.specs.KeywordsRun.{IsKeywordsReply, lists_with_words}
 use Rattle.mdbox_top.specs.FlagRun.{IsFlagReply}
 use Rattle.mdbox_top.specs.MoveRun.{IsMoveReply, MoveMoments, MoveRests}
 use Rattle.mdbox_top.specs.RenameRun.{IsRenameReply}
@@ -82,6 +83,7 @@ reads_no_mail (request.Make name) one = refl
 reads_no_mail (request.Delete name) one = refl
 reads_no_mail (request.Rename name target) one = refl
 reads_no_mail (request.Expunge name uid) one = refl
+reads_no_mail (request.Keywords name uid words) one = refl
 reads_no_mail (request.Copy name uid target) one = refl
 reads_no_mail (request.Move name uid target) one = refl
 reads_no_mail request.Counts one = refl
@@ -334,6 +336,40 @@ expunge_tells name uid given old new began now w =
       mail = change_mail asked given w.entries old new began now k;
     }
 
+-- ---- the keywords of a message
+
+abbrev expunging : List ℕ → Uid → Request
+wording name uid words = request.Keywords name uid words
+
+along_words : (name : List ℕ) (uid : Uid) (words : List (List ℕ)) (answer : Reply) (lists : Lists) → (lists_told (wording name uid words) answer lists ≡ lists) ⊎ (lists_told (wording name uid words) answer lists ≡ lists_with_words name uid words lists)
+along_words name uid words reply.Done lists = inr refl
+along_words name uid words other lists = inl refl
+
+words_change : (name : List ℕ) (uid : Uid) (words : List (List ℕ)) (given : Reply) (old new : Option History) (began now : Faults) → (w : IsRequestDone (wording name uid words) given old new began now) → IsOneChange (wording name uid words) given w.entries old new began now
+words_change name uid words given old new began now w = record {
+  done = w.done;
+  one = tt;
+  calm = unread (wording name uid words) given w.entries old new began now w.done tt;
+  told = λ answer lists left is. is;
+  delivers = refl;
+}
+
+words_tells : (name : List ℕ) (uid : Uid) (words : List (List ℕ)) (given : Reply) (old new : Option History) (began now : Faults) → IsRequestDone (wording name uid words) given old new began now → IsKeywordsReply name uid words old new given
+unfolding words_change
+words_tells name uid words given old new began now w =
+    let asked : Request = wording name uid words in
+    let k = words_change name uid words given old new began now w in
+    record {
+      m = w.done.m;
+      meanings = w.done.meanings;
+      opened = w.done.opened;
+      given_is = w.told;
+      refused = λ why is running. unchanged_since asked given w.entries old new began now w.done (w.undone (subst (λ (r : Reply). IsUndoneAlone (alone asked) (r ∷ [])) (sym is) running));
+      done = λ e. change_opens asked (lists_with_words name uid words) given old new began now w k (done_runs given e) (λ lists. ap (λ (r : Reply). lists_told asked r lists) e);
+      settled = change_settles asked given w.entries old new began now k;
+      mail = change_mail asked given w.entries old new began now k;
+    }
+
 -- ---- a deletion of a mailbox
 
 abbrev deleting : List ℕ → Request
@@ -550,6 +586,14 @@ done_one (request.Expunge name uid) given old new began now w one answer make =
       moments = change_leaves (expunging name uid) (lists_without_message name uid) given w.entries old new began now k tt (along_expunge name uid);
       rests = change_rests (expunging name uid) (lists_without_message name uid) given w.entries old new began now k (along_expunge name uid);
       faults = one_faults (expunging name uid) given w.entries old new began now w.done tt k.calm;
+    }
+done_one (request.Keywords name uid words) given old new began now w one answer make =
+    let k = words_change name uid words given old new began now w in
+    record {
+      tells = words_tells name uid words given old new began now w;
+      moments = change_leaves (wording name uid words) (lists_with_words name uid words) given w.entries old new began now k tt (along_words name uid words);
+      rests = change_rests (wording name uid words) (lists_with_words name uid words) given w.entries old new began now k (along_words name uid words);
+      faults = one_faults (wording name uid words) given w.entries old new began now w.done tt k.calm;
     }
 done_one (request.Copy name uid target) given old new began now w one answer make =
     let k = copy_change name uid target given old new began now w in

@@ -38,6 +38,7 @@ use Rattle.mdbox_top.specs.MoveRun.{IsMoveReply}
 use Rattle.mdbox_top.specs.DeleteRun.{IsDeleteReply}
 use Rattle.mdbox_top.specs.RenameRun.{IsRenameReply}
 use Rattle.mdbox_top.specs.ExpungeRun.{IsExpungeReply, lists_without_message}
+use Rattle.mdbox_top.specs.KeywordsRun.{IsKeywordsReply, lists_with_words}
 use Rattle.mdbox_top.specs.CountsRun.{IsCountsReply}
 use Rattle.mdbox_top.specs.PurgeRun.{IsPurgeReply}
 use Rattle.mdbox_top.specs.ResyncRun.{IsResyncReply}
@@ -61,6 +62,7 @@ input_memory D (command.List name) left told h k old new f g why e = absurd (req
 input_memory D (command.Fetch name uid) left told h k old new f g why e = absurd (request_input (IsFetchReply name uid) (request.Fetch name uid) h k old new f g why e)
 input_memory D (command.Flag name uid flags) left told h k old new f g why e = absurd (request_input (IsFlagReply name uid flags) (request.Flag name uid flags) h k old new f g why e)
 input_memory D (command.Expunge name uid) left told h k old new f g why e = absurd (request_input (IsExpungeReply name uid) (request.Expunge name uid) h k old new f g why e)
+input_memory D (command.Keywords name uid words) left told h k old new f g why e = absurd (request_input (IsKeywordsReply name uid words) (request.Keywords name uid words) h k old new f g why e)
 input_memory D (command.Copy name uid target) left told h k old new f g why e = absurd (request_input (IsCopyReply name uid target) (request.Copy name uid target) h k old new f g why e)
 input_memory D (command.Move name uid target) left told h k old new f g why e = absurd (request_input (IsMoveReply name uid target) (request.Move name uid target) h k old new f g why e)
 input_memory D (command.Make name) left told h k old new f g why e = absurd (request_input (IsMakeReply name) (request.Make name) h k old new f g why e)
@@ -85,6 +87,7 @@ damage_memory D (command.List box) left told h k old new f g name place e = requ
 damage_memory D (command.Fetch box uid) left told h k old new f g name place e = request_damage (IsFetchReply box uid) (request.Fetch box uid) h k old new f g (store.Damaged name place) e
 damage_memory D (command.Flag box uid flags) left told h k old new f g name place e = request_damage (IsFlagReply box uid flags) (request.Flag box uid flags) h k old new f g (store.Damaged name place) e
 damage_memory D (command.Expunge box uid) left told h k old new f g name place e = request_damage (IsExpungeReply box uid) (request.Expunge box uid) h k old new f g (store.Damaged name place) e
+damage_memory D (command.Keywords box uid words) left told h k old new f g name place e = request_damage (IsKeywordsReply box uid words) (request.Keywords box uid words) h k old new f g (store.Damaged name place) e
 damage_memory D (command.Copy box uid target) left told h k old new f g name place e = request_damage (IsCopyReply box uid target) (request.Copy box uid target) h k old new f g (store.Damaged name place) e
 damage_memory D (command.Move box uid target) left told h k old new f g name place e = request_damage (IsMoveReply box uid target) (request.Move box uid target) h k old new f g (store.Damaged name place) e
 damage_memory D (command.Make box) left told h k old new f g name place e = request_damage (IsMakeReply box) (request.Make box) h k old new f g (store.Damaged name place) e
@@ -132,6 +135,7 @@ has_status D (command.List name) r left told h k old new f g o e = λ lists s. r
 has_status D (command.Fetch name uid) r left told h k old new f g o e = λ lists s. request_status (IsFetchReply name uid) (request.Fetch name uid) h k old new f g o e lists s
 has_status D (command.Flag name uid flags) r left told h k old new f g o e = λ lists s. request_status (IsFlagReply name uid flags) (request.Flag name uid flags) h k old new f g o e lists s
 has_status D (command.Expunge name uid) r left told h k old new f g o e = λ lists s. request_status (IsExpungeReply name uid) (request.Expunge name uid) h k old new f g o e lists s
+has_status D (command.Keywords name uid words) r left told h k old new f g o e = λ lists s. request_status (IsKeywordsReply name uid words) (request.Keywords name uid words) h k old new f g o e lists s
 has_status D (command.Copy name uid target) r left told h k old new f g o e = λ lists s. request_status (IsCopyReply name uid target) (request.Copy name uid target) h k old new f g o e lists s
 has_status D (command.Move name uid target) r left told h k old new f g o e = λ lists s. request_status (IsMoveReply name uid target) (request.Move name uid target) h k old new f g o e lists s
 has_status D (command.Make name) r left told h k old new f g o e = λ lists s. request_status (IsMakeReply name) (request.Make name) h k old new f g o e lists s
@@ -158,6 +162,7 @@ used D (command.List name) left told h k old new f g e = request_used (IsListRep
 used D (command.Fetch name uid) left told h k old new f g e = request_used (IsFetchReply name uid) (request.Fetch name uid) h k old new f g e
 used D (command.Flag name uid flags) left told h k old new f g e = request_used (IsFlagReply name uid flags) (request.Flag name uid flags) h k old new f g e
 used D (command.Expunge name uid) left told h k old new f g e = request_used (IsExpungeReply name uid) (request.Expunge name uid) h k old new f g e
+used D (command.Keywords name uid words) left told h k old new f g e = request_used (IsKeywordsReply name uid words) (request.Keywords name uid words) h k old new f g e
 used D (command.Copy name uid target) left told h k old new f g e = request_used (IsCopyReply name uid target) (request.Copy name uid target) h k old new f g e
 used D (command.Move name uid target) left told h k old new f g e = request_used (IsMoveReply name uid target) (request.Move name uid target) h k old new f g e
 used D (command.Make name) left told h k old new f g e = request_used (IsMakeReply name) (request.Make name) h k old new f g e
@@ -302,6 +307,7 @@ named_unnoted (command.List name) named now h f = (refl, refl)
 named_unnoted (command.Fetch name uid) named now h f = (refl, refl)
 named_unnoted (command.Flag name uid flags) named now h f = (refl, refl)
 named_unnoted (command.Expunge name uid) named now h f = (refl, refl)
+named_unnoted (command.Keywords name uid words) named now h f = (refl, refl)
 named_unnoted (command.Copy name uid target) named now h f = (refl, refl)
 named_unnoted (command.Move name uid target) named now h f = (refl, refl)
 named_unnoted (command.Make name) named now h f = (refl, refl)
@@ -333,6 +339,7 @@ fails_last (command.Deliver name) o last y e = one_last o last y e
 fails_last (command.Fetch name uid) o last y e = one_last o last y e
 fails_last (command.Flag name uid flags) o last y e = one_last o last y e
 fails_last (command.Expunge name uid) o last y e = one_last o last y e
+fails_last (command.Keywords name uid words) o last y e = one_last o last y e
 fails_last (command.Copy name uid target) o last y e = one_last o last y e
 fails_last (command.Move name uid target) o last y e = one_last o last y e
 fails_last (command.Make name) o last y e = one_last o last y e
@@ -350,6 +357,7 @@ rests_last (command.List name) left told F G f g old new h r = λ none. r (λ fa
 rests_last (command.Fetch name uid) left told F G f g old new h r = λ none. r (λ failed. none (h failed))
 rests_last (command.Flag name uid flags) left told F G f g old new h r = λ none. r (λ failed. none (h failed))
 rests_last (command.Expunge name uid) left told F G f g old new h r = λ none. r (λ failed. none (h failed))
+rests_last (command.Keywords name uid words) left told F G f g old new h r = λ none. r (λ failed. none (h failed))
 rests_last (command.Copy name uid target) left told F G f g old new h r = λ none. r (λ failed. none (h failed))
 rests_last (command.Move name uid target) left told F G f g old new h r = λ none. r (λ failed. none (h failed))
 rests_last (command.Make name) left told F G f g old new h r = λ none. r (λ failed. none (h failed))
@@ -372,6 +380,7 @@ named_unasked D (command.List name) named left told h old f = unasked (IsListRep
 named_unasked D (command.Fetch name uid) named left told h old f = unasked (IsFetchReply name uid) (request.Fetch name uid) h old f
 named_unasked D (command.Flag name uid flags) named left told h old f = unasked (IsFlagReply name uid flags) (request.Flag name uid flags) h old f
 named_unasked D (command.Expunge name uid) named left told h old f = unasked (IsExpungeReply name uid) (request.Expunge name uid) h old f
+named_unasked D (command.Keywords name uid words) named left told h old f = unasked (IsKeywordsReply name uid words) (request.Keywords name uid words) h old f
 named_unasked D (command.Copy name uid target) named left told h old f = unasked (IsCopyReply name uid target) (request.Copy name uid target) h old f
 named_unasked D (command.Move name uid target) named left told h old f = unasked (IsMoveReply name uid target) (request.Move name uid target) h old f
 named_unasked D (command.Make name) named left told h old f = unasked (IsMakeReply name) (request.Make name) h old f
@@ -393,6 +402,7 @@ named_still (command.List name) named left told h = still_moments h
 named_still (command.Fetch name uid) named left told h = still_moments h
 named_still (command.Flag name uid flags) named left told h = λ lists s. each_image-map (λ _ image. Safe image lists) (λ _ image. Safe image lists ⊎ Safe image (set_flags name uid.0 flags lists)) h h (λ m image safe. inl safe) (still_safe lists h s)
 named_still (command.Expunge name uid) named left told h = λ lists s. each_image-map (λ _ image. Safe image lists) (λ _ image. Safe image lists ⊎ Safe image (lists_without_message name uid lists)) h h (λ m image safe. inl safe) (still_safe lists h s)
+named_still (command.Keywords name uid words) named left told h = λ lists s. each_image-map (λ _ image. Safe image lists) (λ _ image. Safe image lists ⊎ Safe image (lists_with_words name uid words lists)) h h (λ m image safe. inl safe) (still_safe lists h s)
 named_still (command.Copy name uid target) named left told h = λ lists s. each_image-map (λ _ image. Safe image lists) (λ _ image. Safe image lists ⊎ Safe image (copied_lists name uid target lists)) h h (λ m image safe. inl safe) (still_safe lists h s)
 named_still (command.Move name uid target) named left told h = λ lists s. each_image-map (λ _ image. Safe image lists) (λ _ image. Safe image lists ⊎ (Safe image (copied_lists name uid target lists) ⊎ Safe image (moved_lists name uid target lists))) h h (λ m image safe. inl safe) (still_safe lists h s)
 named_still (command.Make name) named left told h = λ lists s. each_image-map (λ _ image. Safe image lists) (λ _ image. Safe image lists ⊎ ((some : Lists) × AreMade name h lists some × Safe image some)) h h (λ m image safe. inl safe) (still_safe lists h s)
@@ -406,6 +416,7 @@ named_rests (command.List name) named left told failed f g h = λ none. (λ list
 named_rests (command.Fetch name uid) named left told failed f g h = λ none. (λ lists s. s, carries-idle h h (idle-begins h))
 named_rests (command.Flag name uid flags) named left told failed f g h = λ none lists s. inl s
 named_rests (command.Expunge name uid) named left told failed f g h = λ none lists s. inl s
+named_rests (command.Keywords name uid words) named left told failed f g h = λ none lists s. inl s
 named_rests (command.Copy name uid target) named left told failed f g h = λ none lists s. inl s
 named_rests (command.Move name uid target) named left told failed f g h = λ none lists s. inl s
 named_rests (command.Make name) named left told failed f g h = λ none lists s. inl s

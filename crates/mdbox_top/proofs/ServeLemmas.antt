@@ -33,6 +33,7 @@ use Rattle.mdbox_top.proofs.RequestLemmas.{faulted_is, failed_outcome, failed_st
 use Rattle.mdbox_top.proofs.ListLemmas.{list_calm, list_runs}
 use Rattle.mdbox_top.proofs.CountsLemmas.{counts_calm, counts_run}
 use Rattle.mdbox_top.specs.ExpungeRun.{lists_without_message}
+use Rattle.mdbox_top.specs.KeywordsRun.{lists_with_words}
 use Rattle.mdbox_top.proofs.MakeLemmas.{SafeForMade}
 
 -- ---- how it is printed
@@ -59,6 +60,7 @@ rests_as (request.List name) F G began now old new h r = λ none. r (λ failed. 
 rests_as (request.Fetch name uid) F G began now old new h r = λ none. r (λ failed. none (h failed))
 rests_as (request.Flag name uid flags) F G began now old new h r = λ none. r (λ failed. none (h failed))
 rests_as (request.Expunge name uid) F G began now old new h r = λ none. r (λ failed. none (h failed))
+rests_as (request.Keywords name uid words) F G began now old new h r = λ none. r (λ failed. none (h failed))
 rests_as (request.Copy name uid target) F G began now old new h r = λ none. r (λ failed. none (h failed))
 rests_as (request.Move name uid target) F G began now old new h r = λ none. r (λ failed. none (h failed))
 rests_as (request.Make name) F G began now old new h r = λ none. r (λ failed. none (h failed))
@@ -106,6 +108,7 @@ unopened_leaves request.Resync old new began now why u = u.moments
 unopened_leaves request.Purge old new began now why u = record { safe = u.moments; sealed = mail_keeps_sealed old new u.stays }
 unopened_leaves (request.Flag name uid flags) old new began now why u = change_unopened_leaves (set_flags name uid.0 flags) old new began now why u
 unopened_leaves (request.Expunge name uid) old new began now why u = change_unopened_leaves (lists_without_message name uid) old new began now why u
+unopened_leaves (request.Keywords name uid words) old new began now why u = change_unopened_leaves (lists_with_words name uid words) old new began now why u
 unopened_leaves (request.Copy name uid target) old new began now why u = change_unopened_leaves (copied_lists name uid target) old new began now why u
 unopened_leaves (request.Move name uid target) old new began now why u = λ lists at.
     each_image-map (λ _ image. Safe image lists) (λ _ image. Safe image lists ⊎ (Safe image (copied_lists name uid target lists) ⊎ Safe image (moved_lists name uid target lists))) old new (λ m image h. inl h) (u.moments lists at)
@@ -122,6 +125,7 @@ unopened_rests request.Resync old new began now why u = λ none. u.settled_again
 unopened_rests request.Purge old new began now why u = λ none. u.settled_again (λ f. none (unopened_may request.Purge why f))
 unopened_rests (request.Flag name uid flags) old new began now why u = λ none lists at. inl (u.settled_again (λ f. none (unopened_may (request.Flag name uid flags) why f)) lists at)
 unopened_rests (request.Expunge name uid) old new began now why u = λ none lists at. inl (u.settled_again (λ f. none (unopened_may (request.Expunge name uid) why f)) lists at)
+unopened_rests (request.Keywords name uid words) old new began now why u = λ none lists at. inl (u.settled_again (λ f. none (unopened_may (request.Keywords name uid words) why f)) lists at)
 unopened_rests (request.Copy name uid target) old new began now why u = λ none lists at. inl (u.settled_again (λ f. none (unopened_may (request.Copy name uid target) why f)) lists at)
 unopened_rests (request.Move name uid target) old new began now why u = λ none lists at. inl (u.settled_again (λ f. none (unopened_may (request.Move name uid target) why f)) lists at)
 unopened_rests (request.Make name) old new began now why u = λ none lists at. inl (u.settled_again (λ f. none (unopened_may (request.Make name) why f)) lists at)

@@ -13,6 +13,7 @@ use Rattle.mdbox_top.specs.DeleteRun.{IsDeleteReply, DeleteMoments, DeleteRests}
 use Rattle.mdbox_top.specs.DeliverRun.{IsDeliverReply, SaveMoments, SaveRests}
 use Rattle.mdbox_top.specs.FetchRun.{IsFetchReply, FetchMoments, FetchRests}
 use Rattle.mdbox_top.specs.FlagRun.{IsFlagReply, FlagMoments, FlagRests}
+use Rattle.mdbox_top.specs.KeywordsRun.{IsKeywordsReply, KeywordsMoments, KeywordsRests}
 use Rattle.mdbox_top.specs.CopyRun.{IsCopyReply, CopyMoments, CopyRests}
 use Rattle.mdbox_top.specs.MakeRun.{IsMakeReply, MakeMoments, MakeRests}
 use Rattle.mdbox_top.specs.MoveRun.{IsMoveReply, MoveMoments, MoveRests}
@@ -28,6 +29,7 @@ ReplyTells (request.Deliver name time octets) = IsDeliverReply name time octets
 ReplyTells (request.List name) = IsListReply name
 ReplyTells (request.Fetch name uid) = IsFetchReply name uid
 ReplyTells (request.Flag name uid flags) = IsFlagReply name uid flags
+ReplyTells (request.Keywords name uid words) = IsKeywordsReply name uid words
 ReplyTells (request.Expunge name uid) = IsExpungeReply name uid
 ReplyTells (request.Copy name uid target) = IsCopyReply name uid target
 ReplyTells (request.Move name uid target) = IsMoveReply name uid target
@@ -44,6 +46,7 @@ RequestMoments (request.Deliver name time octets) = SaveMoments name time octets
 RequestMoments (request.List name) = ListMoments
 RequestMoments (request.Fetch name uid) = FetchMoments
 RequestMoments (request.Flag name uid flags) = FlagMoments name uid flags
+RequestMoments (request.Keywords name uid words) = KeywordsMoments name uid words
 RequestMoments (request.Expunge name uid) = ExpungeMoments name uid
 RequestMoments (request.Copy name uid target) = CopyMoments name uid target
 RequestMoments (request.Move name uid target) = MoveMoments name uid target
@@ -60,6 +63,7 @@ RequestRests (request.Deliver name time octets) = SaveRests name time octets
 RequestRests (request.List name) = ListRests
 RequestRests (request.Fetch name uid) = FetchRests
 RequestRests (request.Flag name uid flags) = FlagRests name uid flags
+RequestRests (request.Keywords name uid words) = KeywordsRests name uid words
 RequestRests (request.Expunge name uid) = ExpungeRests name uid
 RequestRests (request.Copy name uid target) = CopyRests name uid target
 RequestRests (request.Move name uid target) = MoveRests name uid target

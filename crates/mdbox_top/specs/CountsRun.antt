@@ -6,7 +6,8 @@ use Rattle.mdbox_base.specs.declared.replies.Reply.{Reply}
 use Rattle.mdbox_base.specs.declared.replies.Reply.TheVariants as reply
 use Rattle.mdbox_base.specs.declared.requests.Request.TheVariants as request
 use Rattle.model_lists.specs.Lists.{Lists}
-use Rattle.list_machine.specs.Machine.{PartAnswers, count_different}
+use Rattle.list_machine.specs.Machine.{PartAnswers}
+use Rattle.mdbox_base.specs.Words.{count_different}
 use Rattle.list_machine.specs.Run.{Run, RunEvent, First, map_of}
 use Rattle.mail_ops.specs.Counting.{named_ids}
 use Rattle.model_meaning.specs.BoxMeaning.{BoxMeaning}

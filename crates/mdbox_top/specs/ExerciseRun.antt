@@ -12,7 +12,7 @@ use Rattle.model_lists.specs.Lists.{Lists}
 use Rattle.model_meaning.specs.BoxMeaning.{BoxMeaning}
 use Rattle.model_meaning.specs.MapMeaning.{MapMeaning}
 use Rattle.journal.specs.Journal.{Requests}
-use Rattle.list_machine.specs.Machine.{count_different}
+use Rattle.mdbox_base.specs.Words.{count_different}
 use Rattle.mail_ops.specs.Counting.{named_ids}
 use Rattle.request_text.specs.Outcomes.{is_disk_no}
 use Rattle.request_text.specs.declared.outcome.Outcome.{Outcome}

@@ -12,6 +12,7 @@ pub mod FetchRun
 pub mod FlagRun
 pub mod InitRun
 pub mod InputRun
+pub mod KeywordsRun
 pub mod ListRun
 pub mod MakeRun
 pub mod MoveRun

@@ -4,7 +4,7 @@ use Rattle.std.specs.List.{list_any}
 use Rattle.mdbox_base.specs.declared.replies.Reply.{Reply}
 use Rattle.model_meaning.specs.BoxMeaning.{BoxMeaning}
 use Rattle.model_meaning.specs.MapMeaning.{MapMeaning}
-use Rattle.list_machine.specs.Machine.{count_different}
+use Rattle.mdbox_base.specs.Words.{count_different}
 use Rattle.mail_ops.specs.Counting.{named_ids}
 use Rattle.request_text.specs.Outcomes.{is_disk_no, is_no}
 use Rattle.request_text.specs.SummaryText.{summary_text}

@@ -23,6 +23,7 @@ use Rattle.mdbox_top.specs.DeleteRun.{DeleteOutcome, DeleteMoments, DeleteRests}
 use Rattle.mdbox_top.specs.DeliverRun.{DeliverOutcome, DeliverMoments, DeliverRests, DeliverStatus}
 use Rattle.mdbox_top.specs.FetchRun.{FetchOutcome, FetchMoments, FetchRests}
 use Rattle.mdbox_top.specs.FlagRun.{FlagOutcome, FlagMoments, FlagRests}
+use Rattle.mdbox_top.specs.KeywordsRun.{KeywordsOutcome, KeywordsMoments, KeywordsRests}
 use Rattle.mdbox_top.specs.CopyRun.{CopyOutcome, CopyMoments, CopyRests}
 use Rattle.mdbox_top.specs.MakeRun.{MakeOutcome, MakeMoments, MakeRests}
 use Rattle.mdbox_top.specs.MoveRun.{MoveOutcome, MoveMoments, MoveRests}
@@ -40,6 +41,7 @@ Ends D (command.Deliver name) left told held later old new began now outcome = D
 Ends D (command.List name) left told held later old new began now outcome = ListOutcome D name held later old new began now outcome
 Ends D (command.Fetch name uid) left told held later old new began now outcome = FetchOutcome D name uid held later old new began now outcome
 Ends D (command.Flag name uid flags) left told held later old new began now outcome = FlagOutcome D name uid flags held later old new began now outcome
+Ends D (command.Keywords name uid words) left told held later old new began now outcome = KeywordsOutcome D name uid words held later old new began now outcome
 Ends D (command.Expunge name uid) left told held later old new began now outcome = ExpungeOutcome D name uid held later old new began now outcome
 Ends D (command.Copy name uid target) left told held later old new began now outcome = CopyOutcome D name uid target held later old new began now outcome
 Ends D (command.Move name uid target) left told held later old new began now outcome = MoveOutcome D name uid target held later old new began now outcome
@@ -85,6 +87,7 @@ Moments (command.Deliver name) left told old new = DeliverMoments name left told
 Moments (command.List name) left told old new = ListMoments old new
 Moments (command.Fetch name uid) left told old new = FetchMoments old new
 Moments (command.Flag name uid flags) left told old new = FlagMoments name uid flags old new
+Moments (command.Keywords name uid words) left told old new = KeywordsMoments name uid words old new
 Moments (command.Expunge name uid) left told old new = ExpungeMoments name uid old new
 Moments (command.Copy name uid target) left told old new = CopyMoments name uid target old new
 Moments (command.Move name uid target) left told old new = MoveMoments name uid target old new
@@ -107,6 +110,7 @@ Rests (command.Deliver name) left told failed began now old new = DeliverRests n
 Rests (command.List name) left told failed began now old new = ListRests failed began now old new
 Rests (command.Fetch name uid) left told failed began now old new = FetchRests failed began now old new
 Rests (command.Flag name uid flags) left told failed began now old new = FlagRests name uid flags failed began now old new
+Rests (command.Keywords name uid words) left told failed began now old new = KeywordsRests name uid words failed began now old new
 Rests (command.Expunge name uid) left told failed began now old new = ExpungeRests name uid failed began now old new
 Rests (command.Copy name uid target) left told failed began now old new = CopyRests name uid target failed began now old new
 Rests (command.Move name uid target) left told failed began now old new = MoveRests name uid target failed began now old new
@@ -130,6 +134,7 @@ HasStatus (command.Deliver name) left old status = DeliverStatus left old status
 HasStatus (command.List name) left old status = (lists : Lists) → IsSettledFor lists old → IsOneOf (0 ∷ 1 ∷ 5 ∷ 6 ∷ 8 ∷ []) status
 HasStatus (command.Fetch name uid) left old status = (lists : Lists) → IsSettledFor lists old → IsOneOf (0 ∷ 1 ∷ 5 ∷ 6 ∷ 8 ∷ []) status
 HasStatus (command.Flag name uid flags) left old status = (lists : Lists) → IsSettledFor lists old → IsOneOf (0 ∷ 1 ∷ 5 ∷ 6 ∷ 8 ∷ []) status
+HasStatus (command.Keywords name uid words) left old status = (lists : Lists) → IsSettledFor lists old → IsOneOf (0 ∷ 1 ∷ 5 ∷ 6 ∷ 8 ∷ []) status
 HasStatus (command.Expunge name uid) left old status = (lists : Lists) → IsSettledFor lists old → IsOneOf (0 ∷ 1 ∷ 5 ∷ 6 ∷ 8 ∷ []) status
 HasStatus (command.Copy name uid target) left old status = (lists : Lists) → IsSettledFor lists old → IsOneOf (0 ∷ 1 ∷ 5 ∷ 6 ∷ 8 ∷ []) status
 HasStatus (command.Move name uid target) left old status = (lists : Lists) → IsSettledFor lists old → IsOneOf (0 ∷ 1 ∷ 5 ∷ 6 ∷ 8 ∷ []) status
@@ -155,6 +160,7 @@ abbrev pub MayHaveFailed : Command → ℕ → Type 0
 MayHaveFailed (command.Deliver name) status = IsOneOf (5 ∷ 6 ∷ 8 ∷ []) status
 MayHaveFailed (command.Fetch name uid) status = MayFail (request.Fetch name uid) status
 MayHaveFailed (command.Flag name uid flags) status = MayFail (request.Flag name uid flags) status
+MayHaveFailed (command.Keywords name uid words) status = MayFail (request.Keywords name uid words) status
 MayHaveFailed (command.Expunge name uid) status = MayFail (request.Expunge name uid) status
 MayHaveFailed (command.Copy name uid target) status = MayFail (request.Copy name uid target) status
 MayHaveFailed (command.Move name uid target) status = MayFail (request.Move name uid target) status
@@ -189,6 +195,7 @@ uses_disk (command.Deliver name) = true
 uses_disk (command.List name) = true
 uses_disk (command.Fetch name uid) = true
 uses_disk (command.Flag name uid flags) = true
+uses_disk (command.Keywords name uid words) = true
 uses_disk (command.Expunge name uid) = true
 uses_disk (command.Copy name uid target) = true
 uses_disk (command.Move name uid target) = true

@@ -4,7 +4,7 @@ use Rattle.std.specs.Prelude.{is_some, is_none, Bool, true, false, if◌then◌e
 use Rattle.std.proofs.lemmas.List.{map-append}
 use Rattle.std.specs.List.{position, remove}
 use Rattle.model_lists.specs.Lists.{ListedMessage, Mailbox, Lists, empty_mailbox, change_first}
-use Rattle.list_machine.specs.Machine.{has_name, has_number, is_message_of_uid, mailbox_named, mailbox_numbered, message_at, message_numbered, message_in, without_first, set_flags, expunge, expunge_from, delete_mailbox, rename_mailbox}
+use Rattle.list_machine.specs.Machine.{has_name, has_number, is_message_of_uid, mailbox_named, mailbox_numbered, message_at, message_numbered, message_in, without_first, set_flags, set_words, expunge, expunge_from, delete_mailbox, rename_mailbox}
 use Rattle.plain_lists.specs.declared.lists.PlainMessage.{PlainMessage}
 use Rattle.plain_lists.specs.declared.lists.PlainMailbox.{PlainMailbox}
 use Rattle.plain_lists.specs.View.{mailbox_of, message_of}
@@ -86,6 +86,16 @@ flagged boxes name uid flags i j b b' m m' place here inner there flag e1 e2 e3 
     let k : map message_of b'.messages.items ≡ change_first (is_message_of_uid uid) (λ message. record message { flags = flags }) (map message_of b.messages.items) =
     ap (map message_of) e4 ∙ changed_at message_of (is_message_of_uid uid) (λ message. record message { flags = flags }) b.messages.items j m' m inner (flag ∙ ap (λ (x : PlainMessage). record (message_of x) { flags = flags }) there) in
     mailbox_changed (λ mailbox. record mailbox { messages = change_first (is_message_of_uid uid) (λ message. record message { flags = flags }) mailbox.messages }) boxes name i b b' place here (other_messages b b' _ e1 e2 e3 k)
+
+-- keywords are set in place
+pub worded : (boxes : List PlainMailbox) (name : List ℕ) (uid : ℕ) (words : List (List ℕ)) (i j : ℕ) (b b' : PlainMailbox) (m m' : PlainMessage) → IsFirstPlace mailbox_of (has_name name) boxes i → b ≡ get_or boxes i b →
+    IsFirstPlace message_of (is_message_of_uid uid) b.messages.items j → m ≡ get_or b.messages.items j m → message_of m' ≡ record (message_of m) { words = words } →
+    b'.number ≡ b.number → b'.name ≡ b.name → b'.next_uid ≡ b.next_uid → b'.messages.items ≡ set b.messages.items j m' →
+    map mailbox_of (set boxes i b') ≡ set_words name uid words (map mailbox_of boxes)
+worded boxes name uid words i j b b' m m' place here inner there given e1 e2 e3 e4 =
+    let k : map message_of b'.messages.items ≡ change_first (is_message_of_uid uid) (λ message. record message { words = words }) (map message_of b.messages.items) =
+    ap (map message_of) e4 ∙ changed_at message_of (is_message_of_uid uid) (λ message. record message { words = words }) b.messages.items j m' m inner (given ∙ ap (λ (x : PlainMessage). record (message_of x) { words = words }) there) in
+    mailbox_changed (λ mailbox. record mailbox { messages = change_first (is_message_of_uid uid) (λ message. record message { words = words }) mailbox.messages }) boxes name i b b' place here (other_messages b b' _ e1 e2 e3 k)
 
 -- a message is removed in place
 pub expunged : (boxes : List PlainMailbox) (name : List ℕ) (uid i j : ℕ) (b b' : PlainMailbox) → IsFirstPlace mailbox_of (has_name name) boxes i → b ≡ get_or boxes i b →

@@ -1,7 +1,7 @@
 // The lists.
 ghost use Rattle.std.specs.Prelude.{◌≡◌, ◌≤◌, [], length};
 
-use mdbox_base::{BoxNo, Flags, Guid, Name, Octets, Uid};
+use mdbox_base::{BoxNo, Flags, Guid, Name, Octets, Uid, Words};
 use std::alloc::Global;
 use std::marker::Model;
 
@@ -13,6 +13,7 @@ pub struct PlainMessage {
     pub time: u64,
     pub guid: Guid,
     pub octets: Octets,
+    pub words: Words,
     ghost short: { length octets ≤ 67108864 },
 }
 

@@ -8,7 +8,7 @@ use mdbox_base::{NoMemory, Octets, Uid};
 use std::alloc::Global;
 
 impl PlainMessage {
-    /// The same message, with octets of its own.
+    /// The same message, with octets and keywords of its own.
     pub fn copied(&self, alloc: Global) -> Result<PlainMessage, NoMemory>
         ensures { IfOk result (λ message. message_of message ≡ message_of self.now) }
     {
@@ -20,6 +20,7 @@ impl PlainMessage {
             time: self.time,
             guid: self.guid,
             octets,
+            words: self.words.copied(alloc)?,
         })
     }
 }

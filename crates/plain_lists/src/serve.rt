@@ -7,7 +7,7 @@ ghost use Rattle.plain_lists.specs.AtOnce.{IsAlone, AnswersAtOnce, highest_made}
 
 use crate::lists::{PlainLists, PlainMailbox};
 use crate::walks::{place_of_mailbox, place_of_message, place_of_number, references, rows_of};
-use mdbox_base::{BoxNo, Flags, LAST_NUMBER, Name, NoMemory, Refusal, Reply, Uid};
+use mdbox_base::{BoxNo, Flags, LAST_NUMBER, Name, NoMemory, Refusal, Reply, Uid, Words};
 use std::alloc::Global;
 
 /// The most mailboxes.
@@ -40,6 +40,21 @@ impl PlainLists {
             return Reply::Refused(Refusal::NoMessage);
         };
         self.mailboxes[place].messages[at].flags = flags;
+        Reply::Done
+    }
+
+    /// Gives a message these keywords, and no others.
+    pub fn keywords(&mut self, name: &Name, uid: Uid, words: Words) -> Reply
+        ensures answers { (run : Run) (event : RunEvent) → PartAnswers run event self.old.lists (request.Keywords name.now uid words) First result self.new.lists }
+        ensures same { self.new.highest ≡ self.old.highest }
+    {
+        let Some(place) = place_of_mailbox(&self.mailboxes, name) else {
+            return Reply::Refused(Refusal::NoMailbox);
+        };
+        let Some(at) = place_of_message(&self.mailboxes[place].messages, uid) else {
+            return Reply::Refused(Refusal::NoMessage);
+        };
+        self.mailboxes[place].messages[at].words = words;
         Reply::Done
     }
 

@@ -6,7 +6,7 @@ ghost use Rattle.list_machine.specs.Machine.{has_name, has_number, is_message_of
 ghost use Rattle.plain_lists.specs.View.{message_of, mailbox_of};
 
 use crate::lists::{PlainMailbox, PlainMessage};
-use mdbox_base::{BoxNo, Guid, ListRow, Name, NoMemory, Seq, Uid, Words};
+use mdbox_base::{BoxNo, Guid, ListRow, Name, NoMemory, Seq, Uid};
 use std::alloc::Global;
 
 /// The place of the mailbox with this name.
@@ -43,7 +43,7 @@ pub fn rows_of(alloc: Global, messages: &[PlainMessage]) -> Result<Seq<ListRow>,
             size: message.octets.length() as u32,
             time: message.time,
             guid: message.guid,
-            words: Words::none(alloc),
+            words: message.words.copied(alloc)?,
         })?;
     }
     Ok(rows)

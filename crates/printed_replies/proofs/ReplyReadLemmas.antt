@@ -108,6 +108,7 @@ done_read reply.Done asked x y p q e = (refl, ap (drop 3) e)
 done_read (reply.Refused s) asked x y p q e = absurd (apart _ _ refl refl e)
 done_read other (request.Flag name uid flags) x y p q e = absurd q
 done_read other (request.Expunge name uid) x y p q e = absurd q
+done_read other (request.Keywords name uid words) x y p q e = absurd q
 done_read other (request.Make name) x y p q e = absurd q
 done_read other (request.Delete name) x y p q e = absurd q
 done_read other (request.Rename name target) x y p q e = absurd q

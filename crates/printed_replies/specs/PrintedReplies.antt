@@ -17,6 +17,7 @@ IsReplyTo (request.Deliver name time message) (reply.Saved uid guid) = Unit {0}
 IsReplyTo (request.List name) (reply.Listed rows) = Unit {0}
 IsReplyTo (request.Fetch name uid) (reply.Fetched octets) = Unit {0}
 IsReplyTo (request.Flag name uid flags) reply.Done = Unit {0}
+IsReplyTo (request.Keywords name uid words) reply.Done = Unit {0}
 IsReplyTo (request.Copy name uid target) (reply.Copied copied) = Unit {0}
 IsReplyTo (request.Move name uid target) (reply.Moved copied gone) = Unit {0}
 IsReplyTo (request.Expunge name uid) reply.Done = Unit {0}

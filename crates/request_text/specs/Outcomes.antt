@@ -69,7 +69,7 @@ reason_text (input.Script flaw) = codes "Script " ++ decimal_text flaw.offset
 -- what is missing of a request
 abbrev pub need_text : Need → List ℕ
 need_text need.Lane = codes "it doesn't begin with a lane from 1 to LANES and a space"
-need_text need.Verb = codes "no verb after the lane: deliver, list, fetch, flag, copy, move, expunge, make, delete, rename, counts, purge or resync"
+need_text need.Verb = codes "no verb after the lane: deliver, list, fetch, flag, keywords, copy, move, expunge, make, delete, rename, counts, purge or resync"
 need_text need.Words = codes "not the words that the verb wants: a space before each, a name as LENGTH:NAME, no leading zero, a line feed at the end"
 need_text need.Message = codes "after this line not as many octets as it says, and a line feed"
 need_text need.Fewer = codes "this is request 100001, and a script has at most 100000"

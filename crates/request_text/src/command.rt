@@ -1,5 +1,5 @@
 // The commands of the program.
-use mdbox_base::{Flags, Name, StoreId, Uid};
+use mdbox_base::{Flags, Name, StoreId, Uid, Words};
 
 /// What the program is asked to do.
 #[derive(Drop)]
@@ -14,6 +14,8 @@ pub enum Command {
     Fetch { name: Name, uid: Uid },
     /// Sets the flags of the message with this UID in the mailbox with this name.
     Flag { name: Name, uid: Uid, flags: Flags },
+    /// Sets the keywords of the message with this UID in the mailbox with this name.
+    Keywords { name: Name, uid: Uid, words: Words },
     /// Lists the mailboxes.
     Boxes,
     /// Counts what the store has.
@@ -70,6 +72,10 @@ fetch BOX UID
 flag BOX UID BITS
             sets the flags of the message with this UID to BITS (0 to 31, a sum as list prints it) and prints OK;
             or prints NO 10 no mailbox or NO 12 no message
+keywords BOX UID KEYWORD ..
+            gives the message with this UID these keywords, at most 32, and no others, and prints OK; or prints
+            NO 10 no mailbox or NO 12 no message; a keyword has 1 to 64 printing octets of ASCII, without blanks and
+            ( ) { % * \" \\ ], and capitals differ from small letters; without a keyword the message has none then
 boxes       prints OK and the number of mailboxes in the store in the current folder, then a line for each, in the
             order in which they were made: its number, the UID that its next message gets, how many messages it
             lists, the sum of their sizes in octets, and its name

@@ -102,7 +102,7 @@ fn need_of(need: Need) -> &'static [u8]
     match need {
         Need::Lane => b"it doesn't begin with a lane from 1 to LANES and a space",
         Need::Verb => {
-            b"no verb after the lane: deliver, list, fetch, flag, copy, move, expunge, make, delete, rename, counts, purge or resync"
+            b"no verb after the lane: deliver, list, fetch, flag, keywords, copy, move, expunge, make, delete, rename, counts, purge or resync"
         }
         Need::Words => {
             b"not the words that the verb wants: a space before each, a name as LENGTH:NAME, no leading zero, a line feed at the end"

@@ -5,6 +5,7 @@ pub use batch_print::{print_answer, print_batch, push_reply};
 pub use boxes::{BoxRow, print_boxes};
 pub use command::{Command, HELP, VERSION};
 pub use error_report::report;
+pub use keywords::{are_few, first_other};
 pub use laws::replies_are_told_in_order;
 pub use outcome::{
     FileRefusal, InputRefusal, Outcome, StoreRefusal, outcome_of_replies, outcome_of_reply,
@@ -21,6 +22,7 @@ mod batch_print;
 mod boxes;
 mod command;
 mod error_report;
+mod keywords;
 mod laws;
 mod outcome;
 mod places;

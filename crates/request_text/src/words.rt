@@ -7,6 +7,7 @@ ghost use Rattle.request_text.specs.declared.command.Command.{Command};
 ghost use Rattle.request_text.specs.declared.words.WordsError.TheVariants as words_error;
 
 use crate::command::Command;
+use crate::keywords::{are_few, are_keywords, read_texts};
 use mdbox_base::{
     Flags, Name, NoMemory, StoreId, Uid, flags_of, is_number, name_of, read_decimal, read_lower_hex,
 };
@@ -25,13 +26,16 @@ pub enum WordsError {
     NoMemory,
 }
 
-/// The command that these words say. Only one that names a mailbox takes memory, for the name.
+/// The command that these words say. Only one that names a mailbox takes memory, for the name and for keywords.
 pub fn read_words(alloc: Global, words: &[String]) -> Result<Command, WordsError>
     ensures says { IfOk result (SaysOnly (map string_bytes words.now)) }
     ensures usage { IsErrOf result words_error.Usage → SayNothing (map string_bytes words.now) }
     ensures memory { IsErrOf result words_error.NoMemory → (command : Command) × NamesMailbox command × SaysOnly (map string_bytes words.now) command }
 {
     match words {
+        [verb, name, uid, keywords @ ..] if verb.as_str() == "keywords" => {
+            read_keywords(alloc, name.as_bytes(), uid.as_bytes(), keywords)
+        }
         [word] => read_one(word.as_str()),
         [verb, word] => read_two(alloc, verb.as_str(), word.as_bytes()),
         [verb, name, uid] => read_three(alloc, verb.as_str(), name.as_bytes(), uid.as_bytes()),
@@ -245,6 +249,28 @@ fn read_flag(alloc: Global, name: &[u8], uid: &[u8], flags: &[u8]) -> Result<Com
     };
     let name = read_name(alloc, name)?;
     Ok(Command::Flag { name, uid, flags })
+}
+
+/// The setting of keywords of the message with this UID in the mailbox with this name. What takes memory is read last.
+fn read_keywords(
+    alloc: Global,
+    name: &[u8],
+    uid: &[u8],
+    keywords: &[String],
+) -> Result<Command, WordsError>
+    ensures says { IfOk result (Says (codes "keywords" ∷ name.now ∷ uid.now ∷ map string_bytes keywords.now)) }
+    ensures usage { IsErrOf result words_error.Usage → SayNothing (codes "keywords" ∷ name.now ∷ uid.now ∷ map string_bytes keywords.now) }
+    ensures memory { IsErrOf result words_error.NoMemory → (command : Command) × NamesMailbox command × Says (codes "keywords" ∷ name.now ∷ uid.now ∷ map string_bytes keywords.now) command }
+{
+    let Some(uid) = read_uid(uid) else {
+        return Err(WordsError::Usage);
+    };
+    if !are_keywords(keywords) || !are_few(keywords) {
+        return Err(WordsError::Usage);
+    }
+    let name = read_name(alloc, name)?;
+    let words = read_texts(alloc, keywords)?;
+    Ok(Command::Keywords { name, uid, words })
 }
 
 /// The copy of the message with this UID, from the mailbox with this name, to the target. The names are read last, since they

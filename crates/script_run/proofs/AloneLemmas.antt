@@ -69,6 +69,8 @@ none_behind (request.List name) one around run event None part is = let e : None
 none_behind (request.List name) one around run event (Some why) part is = let e : None ≡ Some part = is in cc e
 none_behind (request.Flag name uid flags) one around run event None part is = let e : None ≡ Some part = is in cc e
 none_behind (request.Flag name uid flags) one around run event (Some why) part is = let e : None ≡ Some part = is in cc e
+none_behind (request.Keywords name uid words) one around run event None part is = let e : None ≡ Some part = is in cc e
+none_behind (request.Keywords name uid words) one around run event (Some why) part is = let e : None ≡ Some part = is in cc e
 none_behind request.Counts one around run event None part is = let e : None ≡ Some part = is in cc e
 none_behind request.Counts one around run event (Some why) part is = let e : None ≡ Some part = is in cc e
 none_behind other one around run event why part is = one
@@ -144,6 +146,7 @@ calm_behind (request.Rename name target) one around run event None part is = abs
 calm_behind (request.Rename name target) one around run event (Some why) part is = absurd (let k : None ≡ Some part = is in cc k)
 calm_behind (request.List name) one around run event why part is = absurd (none_behind (request.List name) one around run event why part is)
 calm_behind (request.Flag name uid flags) one around run event why part is = absurd (none_behind (request.Flag name uid flags) one around run event why part is)
+calm_behind (request.Keywords name uid words) one around run event why part is = absurd (none_behind (request.Keywords name uid words) one around run event why part is)
 calm_behind request.Counts one around run event why part is = absurd (none_behind request.Counts one around run event why part is)
 calm_behind other one around run event why part is = absurd one
 
@@ -159,6 +162,7 @@ calm_parts asked one around run (event ∷ more ∷ rest) part is = calm_parts a
 pub one_makes : (asked : Request) → HasOneEvent asked → MakesSteps asked
 one_makes (request.List name) one = one
 one_makes (request.Flag name uid flags) one = one
+one_makes (request.Keywords name uid words) one = one
 one_makes request.Counts one = one
 one_makes other one = absurd one
 
@@ -219,6 +223,12 @@ ends_by (request.Flag name uid flags) (reply.Refused refusal.Stopped) answers on
 ends_by (request.Flag name uid flags) (reply.Refused (refusal.Damaged file offset)) answers one r = absurd r
 ends_by (request.Flag name uid flags) (reply.Refused why) answers one r = inr (inr refl)
 ends_by (request.Flag name uid flags) given answers one r = inr (inr tt)
+ends_by (request.Keywords name uid words) (reply.Refused refusal.NoMemory) answers one r = inl (inl refl)
+ends_by (request.Keywords name uid words) (reply.Refused refusal.ReadFault) answers one r = inr (inl refl)
+ends_by (request.Keywords name uid words) (reply.Refused refusal.Stopped) answers one r = inl (inr refl)
+ends_by (request.Keywords name uid words) (reply.Refused (refusal.Damaged file offset)) answers one r = absurd r
+ends_by (request.Keywords name uid words) (reply.Refused why) answers one r = inr (inr refl)
+ends_by (request.Keywords name uid words) given answers one r = inr (inr tt)
 ends_by request.Counts (reply.Refused refusal.NoMemory) answers one r = inl (inl refl)
 ends_by request.Counts (reply.Refused refusal.ReadFault) answers one r = inr (inl refl)
 ends_by request.Counts (reply.Refused refusal.Stopped) answers one r = inl (inr refl)

@@ -18,7 +18,7 @@ use Rattle.serving.proofs.LaneLemmas.{get_set_other, get_set_same, nat_cases, on
 use Rattle.store_core.specs.Value.{StoreValue}
 use Rattle.task_claims.specs.Leaving.{IsSameOrSynced, SyncsMail}
 use Rattle.task_steps.specs.Step.{ended_by}
-use Rattle.lane_tasks.specs.Clause.{AnswersReads, DoomsNone, DoomsNothing, OnlyReads, ReadsNoOctets, SetsNoFlags, StaysOfRequest, TaskKeeps, WritesTask}
+use Rattle.lane_tasks.specs.Clause.{AnswersReads, DoomsNone, DoomsNothing, OnlyReads, ReadsNoOctets, SetsNothing, StaysOfRequest, TaskKeeps, WritesTask}
 use Rattle.lane_tasks.specs.declared.task.Task.{Task}
 use Rattle.lane_tasks.specs.declared.task.Task.TheVariants as task
 use Rattle.lane_tasks.proofs.StepLemmas.{ran_before}
@@ -145,7 +145,7 @@ undoomed_on lane old mid before between first counted e is =
 -- ---- tasks that read at the most
 
 reads_next : (t next : Task) → OnlyReads t → StaysOfRequest t next → OnlyReads next
-reads_next (task.Ops t) (task.Ops next) reads kind = subst SetsNoFlags (sym kind) reads
+reads_next (task.Ops t) (task.Ops next) reads kind = subst SetsNothing (sym kind) reads
 reads_next (task.Counts t) (task.Counts next) reads kind = tt
 reads_next (task.Fetch t) (task.Fetch next) reads kind = tt
 reads_next (task.Make t) next reads kind = absurd reads

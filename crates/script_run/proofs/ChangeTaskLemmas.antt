@@ -1,7 +1,8 @@
--- A deletion or a renaming alone: what its task knows from one event to the next.
+-- A deletion, a renaming or a setting of keywords alone: what its task knows from one event to the next.
 use Rattle.std.specs.Prelude.{◌≡◌, ◌⊎◌, ℕ, false, List, Option, Some, None}
 use Rattle.std.proofs.Common.{refl, sym, ◌∙◌, ap, subst, inl, inr}
 use Rattle.disk_model.specs.Disk.{History, IsIdle}
+use Rattle.mdbox_base.specs.declared.ids.Uid.{Uid}
 use Rattle.mdbox_base.specs.declared.replies.Refusal.{Refusal}
 use Rattle.mdbox_base.specs.declared.replies.Refusal.TheVariants as refusal
 use Rattle.mdbox_base.specs.declared.replies.Reply.{Reply}
@@ -12,16 +13,18 @@ use Rattle.task_steps.proofs.OneEventLemmas.{not_true}
 use Rattle.store_core.specs.Value.{StoreValue}
 use Rattle.mail_ops.specs.Changing.{deleting_refusal, renaming_refusal}
 use Rattle.mail_ops.specs.Deleting.{DeleteAnswers}
+use Rattle.mail_ops.specs.Flagging.{flag_refusal}
 use Rattle.mail_ops.specs.Renaming.{RenameAnswers}
 use Rattle.mail_ops.specs.Requests.{IsOpsRequest}
+use Rattle.mail_ops.specs.Wording.{WordsAnswers}
 use Rattle.mail_ops.specs.declared.deleting.DeleteStage.{DeleteStage}
 use Rattle.mail_ops.specs.declared.deleting.DeleteStage.TheVariants as delete_stage
 use Rattle.lane_tasks.specs.Clause.{StaysOfRequest, TellsStore, progress_by}
-use Rattle.lane_tasks.specs.Tasks.{BeginsTask}
+use Rattle.lane_tasks.specs.Tasks.{BeginsTask, IsTaskOf}
 use Rattle.lane_tasks.specs.declared.task.Task.{Task}
 use Rattle.lane_tasks.specs.declared.task.Task.TheVariants as task
 use Rattle.lane_tasks.proofs.StepLemmas.{ops_asked}
-use Rattle.script_run.proofs.OneTaskLemmas.{IsChangeTold, KeepsAlone, missing_answers, one_refusal, some_reply, there_answers, told_so}
+use Rattle.script_run.proofs.OneTaskLemmas.{IsChangeTold, KeepsAlone, missing_answers, one_refusal, some_reply, tells_words, there_answers, told_so}
 
 -- ---- what is replied
 
@@ -160,3 +163,25 @@ begun_rename name target s mid running (task.Purge t) b = absurd (cc b.is_of)
 begun_rename name target s mid running (task.Delete t) b = absurd (cc b.is_of)
 begun_rename name target s mid running (task.Deliver t) b = absurd b.is_of
 begun_rename name target s mid running (task.Resync t) b = absurd (cc b.is_of)
+
+-- ---- a setting of keywords, whose only event is its first
+
+abbrev pub StandsWords : {D : Type 0} → List ℕ → Uid → List (List ℕ) → StoreValue D → Option History → Task → StoreValue D → Option History → Type 0
+StandsWords name uid words s mid t store history = IsTaskOf t (request.Keywords name uid words) × (store ≡ s) × (history ≡ mid)
+
+words_answered : {D : Type 0} → (cause : Option Refusal) (mid before after : Option History) (given : Reply) (s new : StoreValue D) → before ≡ mid → WordsAnswers cause s new given → (new ≡ s → IsIdle before after) → IsChangeTold cause mid given after
+words_answered (Some why) mid before after given s new was a same = subst (λ (r : Reply). IsChangeTold (Some why) mid r after) (sym a.0) (unchanged_told (Some why) mid before after why s new was (a.1, inl refl) same)
+words_answered None mid before after given s new was (inl done) same = subst (λ (r : Reply). IsChangeTold None mid r after) (sym done) (done_told None mid after refl)
+words_answered None mid before after given s new was (inr (inl untaken)) same =
+    subst (λ (r : Reply). IsChangeTold None mid r after) (sym untaken.0) (unchanged_told None mid before after refusal.NoMemory s new was (untaken.1, inr (refl, refl)) same)
+words_answered None mid before after given s new was (inr (inr fell)) same = subst (λ (r : Reply). IsChangeTold None mid r after) (sym fell.0) (stopped_told None mid after refusal.Stopped refl refl)
+
+pub keeps_words : {D : Type 0} → (name : List ℕ) (uid : Uid) (words : List (List ℕ)) (s : StoreValue D) (mid : Option History) → KeepsAlone (StandsWords name uid words s mid) (λ given store history. IsChangeTold (flag_refusal name uid.0 s) mid given history)
+keeps_words name uid words s mid queued next event old new before after first second is goes =
+    let told = tells_words queued.task next name uid words old new before after (ended_by event.ended) is.0 goes.keeps.tells in
+    let answers = subst (λ (v : StoreValue _). WordsAnswers (flag_refusal name uid.0 v) v new told.0) is.1 told.2 in (
+      λ more. absurd (let k : None ≡ Some told.0 = sym more ∙ told.1 in cc k),
+      λ given e.
+          subst (λ (r : Reply). IsChangeTold (flag_refusal name uid.0 s) mid r after) (some_reply told.0 given (sym told.1 ∙ e))
+          (words_answered (flag_refusal name uid.0 s) mid before after told.0 s new is.2 answers (λ back. goes.keeps.same (ap (λ (v : StoreValue _). v.disk) (back ∙ sym is.1)))),
+    )

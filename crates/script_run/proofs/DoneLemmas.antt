@@ -54,7 +54,7 @@ use Rattle.script_run.specs.OpenScript.{IsScriptOpened, IsStoreOpened}
 use Rattle.script_run.specs.Script.{HasStopped, IsRefusedAtOnce, ServesScript, has_change, has_delivery, has_fetch, has_mail_read, has_purge, is_fetch, is_purge}
 use Rattle.script_run.proofs.EndLemmas.{all_given, script_served, serves_from, unharmed}
 use Rattle.script_run.proofs.MailStaysLemmas.{opening_keeps, run_keeps, stays_from}
-use Rattle.script_run.proofs.ChangeTaskLemmas.{StandsDelete, StandsRename, begun_delete, begun_rename, keeps_delete, keeps_rename}
+use Rattle.script_run.proofs.ChangeTaskLemmas.{StandsDelete, StandsRename, StandsWords, begun_delete, begun_rename, keeps_delete, keeps_rename, keeps_words}
 use Rattle.script_run.proofs.CopyTaskLemmas.{IsCopyTold, StandsCopy, begun_copy, keeps_copy}
 use Rattle.script_run.proofs.ChainLemmas.{HasCounted, HasDoomedNone, HasOnlyRead, HasReadAsTold, HasReadNoOctets, HasWrittenNone, WritesNoMail, calm_on, counted_first, counted_on, reads_on, stays_over, syncs_first, unread_on, unwritten_on}
 use Rattle.script_run.proofs.SinceLemmas.{MayBeRefused, ServedSince, answers_first, begun_first, changes_none, dooms_first, fresh_tasks, reads_first, reads_unpurged, served_since, unpurged, unread_first, unwritten_first}
@@ -483,6 +483,12 @@ rename_told : {D : Type 0} → (at : ℕ) (name target : List ℕ) (one : Reply)
 rename_told at name target one old mid new first last s world ended r are =
     alone_told (StandsRename name target s mid) (λ given store history. IsChangeTold (renaming_refusal name target s) mid given history) at (request.Rename name target) one old mid new first last s world ended r are refl (keeps_rename name target s mid) (begun_rename name target s mid r.opened.running)
 
+words_told : {D : Type 0} → (at : ℕ) (name : List ℕ) (uid : Uid) (words : List (List ℕ)) (one : Reply) (old mid new : Option History) (first last : Faults) (s : StoreValue D) (world ended : WorldValue D) → ScriptRan ((at, request.Keywords name uid words) ∷ []) old mid new first last s world ended → ended.replies ≡ Some one ∷ []
+    → IsChangeTold (missing_cause (list_named s name) uid.0) mid one new
+words_told at name uid words one old mid new first last s world ended r are =
+    subst (λ (o : Option Refusal). IsChangeTold o mid one new) (cause_is name uid.0 s r.opened.running)
+    (alone_told (StandsWords name uid words s mid) (λ given store history. IsChangeTold (flag_refusal name uid.0 s) mid given history) at (request.Keywords name uid words) one old mid new first last s world ended r are refl (keeps_words name uid words s mid) (λ t b. (b.is_of, refl, refl)))
+
 copy_told : {D : Type 0} → (at : ℕ) (name : List ℕ) (uid : Uid) (target : List ℕ) (one : Reply) (old mid new : Option History) (first last : Faults) (s : StoreValue D) (world ended : WorldValue D) → ScriptRan ((at, request.Copy name uid target) ∷ []) old mid new first last s world ended → ended.replies ≡ Some one ∷ []
     → IsCopyTold name uid target s mid one ended.store new
 copy_told at name uid target one old mid new first last s world ended r are =
@@ -512,6 +518,7 @@ told_alone ((at, request.Flag name uid flags) ∷ []) old mid new first last s w
 told_alone ((at, request.Make name) ∷ []) old mid new first last s world ended r (one ∷ []) are = making_cause name s one r.opened.drawn (make_told at name one old mid new first last s world ended r are).given_is
 told_alone ((at, request.Delete name) ∷ []) old mid new first last s world ended r (one ∷ []) are = (delete_told at name one old mid new first last s world ended r are).given_is
 told_alone ((at, request.Rename name target) ∷ []) old mid new first last s world ended r (one ∷ []) are = (rename_told at name target one old mid new first last s world ended r are).given_is
+told_alone ((at, request.Keywords name uid words) ∷ []) old mid new first last s world ended r (one ∷ []) are = (words_told at name uid words one old mid new first last s world ended r are).given_is
 told_alone ((at, request.Expunge name uid) ∷ []) old mid new first last s world ended r (one ∷ []) are = (expunge_told at name uid one old mid new first last s world ended r are).given_is
 told_alone ((at, request.Copy name uid target) ∷ []) old mid new first last s world ended r (one ∷ []) are = (copy_told at name uid target one old mid new first last s world ended r are).given_is
 told_alone ((at, request.Move name uid target) ∷ []) old mid new first last s world ended r (one ∷ []) are = (move_told at name uid target one old mid new first last s world ended r are).given_is
@@ -521,6 +528,7 @@ undone_alone : {D : Type 0} → (script : Requests) (old mid new : Option Histor
 undone_alone ((at, request.Make name) ∷ []) old mid new first last s world ended r (reply.Refused why ∷ []) are runs = (make_told at name (reply.Refused why) old mid new first last s world ended r are).unchanged why refl runs.0 runs.1
 undone_alone ((at, request.Delete name) ∷ []) old mid new first last s world ended r (reply.Refused why ∷ []) are running = (delete_told at name (reply.Refused why) old mid new first last s world ended r are).unchanged why refl running
 undone_alone ((at, request.Rename name target) ∷ []) old mid new first last s world ended r (reply.Refused why ∷ []) are running = (rename_told at name target (reply.Refused why) old mid new first last s world ended r are).unchanged why refl running
+undone_alone ((at, request.Keywords name uid words) ∷ []) old mid new first last s world ended r (reply.Refused why ∷ []) are running = (words_told at name uid words (reply.Refused why) old mid new first last s world ended r are).unchanged why refl running
 undone_alone ((at, request.Expunge name uid) ∷ []) old mid new first last s world ended r (reply.Refused why ∷ []) are running = (expunge_told at name uid (reply.Refused why) old mid new first last s world ended r are).unchanged why refl running
 undone_alone ((at, request.Copy name uid target) ∷ []) old mid new first last s world ended r (reply.Refused why ∷ []) are runs = (copy_told at name uid target (reply.Refused why) old mid new first last s world ended r are).unchanged why refl runs.0 runs.1
 undone_alone ((at, request.Move name uid target) ∷ []) old mid new first last s world ended r (reply.Refused why ∷ []) are runs = (move_told at name uid target (reply.Refused why) old mid new first last s world ended r are).unchanged why refl runs.0 runs.1

@@ -138,6 +138,27 @@ by_flag around run lists name uid flags event Switches d = ap entries_moved d
 by_flag around run lists name uid flags event RemovesInstance d = ap entries_moved d
 by_flag around run lists name uid flags event ReadsFile d = ap entries_moved d
 
+by_words : (around : Around) (run : Run) (lists : Lists) (name : List ℕ) (uid : Uid) (words : List (List ℕ)) (event : RunEvent) (part : EventPart) → DidPart around run lists (request.Keywords name uid words) event part → Unmoved event
+by_words around run lists name uid words event First d = ap entries_moved d.2
+by_words around run lists name uid words event Compares d = ap entries_moved d
+by_words around run lists name uid words event PlacesInstance d = ap entries_moved d
+by_words around run lists name uid words event (TakesFile new) d = ap entries_moved d
+by_words around run lists name uid words event PlacesMessage d = ap entries_moved d
+by_words around run lists name uid words event StoresRecord d = ap entries_moved d
+by_words around run lists name uid words event Last d = ap entries_moved d
+by_words around run lists name uid words event SecondHalf d = ap entries_moved d
+by_words around run lists name uid words event GivesBack d = ap entries_moved d
+by_words around run lists name uid words event StartsOver d = ap entries_moved d
+by_words around run lists name uid words event RemovesLog d = ap entries_moved d
+by_words around run lists name uid words event ReadsPiece d = ap entries_moved d
+by_words around run lists name uid words event Unpins d = ap entries_moved d
+by_words around run lists name uid words event RemovesFile d = ap entries_moved d
+by_words around run lists name uid words event MakesTarget d = ap entries_moved d
+by_words around run lists name uid words event CopiesMessage d = ap entries_moved d
+by_words around run lists name uid words event Switches d = ap entries_moved d
+by_words around run lists name uid words event RemovesInstance d = ap entries_moved d
+by_words around run lists name uid words event ReadsFile d = ap entries_moved d
+
 by_expunge : (around : Around) (run : Run) (lists : Lists) (name : List ℕ) (uid : Uid) (event : RunEvent) (part : EventPart) → DidPart around run lists (request.Expunge name uid) event part → Unmoved event
 by_expunge around run lists name uid event First d = removed run lists name uid.0 event d
 by_expunge around run lists name uid event Compares d = ap entries_moved d
@@ -295,6 +316,7 @@ by_part around run lists (request.Deliver name time octets) event part none d = 
 by_part around run lists (request.List name) event part none d = by_list around run lists name event part d
 by_part around run lists (request.Fetch name uid) event part none d = by_fetch run lists name uid.0 event part d
 by_part around run lists (request.Flag name uid flags) event part none d = by_flag around run lists name uid flags event part d
+by_part around run lists (request.Keywords name uid words) event part none d = by_words around run lists name uid words event part d
 by_part around run lists (request.Copy name uid target) event part none d = by_copy run lists name uid.0 target event part d
 by_part around run lists (request.Move name uid target) event part none d = by_move around run lists name uid target event part d
 by_part around run lists (request.Expunge name uid) event part none d = by_expunge around run lists name uid event part d

@@ -174,6 +174,23 @@ keeps_flag name uid flags s queued next event old new before after first second 
           subst (λ (v : StoreValue _). Replies (request.Flag name uid flags) v new given) is.1 (subst (λ (r : Reply). Replies (request.Flag name uid flags) old new r) same told.2),
     )
 
+-- ---- a setting of keywords
+
+-- what its task tells
+pub tells_words : {D : Type 0} → (t next : Task) (name : List ℕ) (uid : Uid) (words : List (List ℕ)) (old new : StoreValue D) (before after : Option History) (ended : Option Reply) → IsTaskOf t (request.Keywords name uid words) → TellsStore t next old new before after ended → (given : Reply) × (ended ≡ Some given) × Replies (request.Keywords name uid words) old new given
+tells_words (task.Ops t) next name uid words old new before after ended of tells = (tells.0, tells.1, subst (λ (q : Request). Replies q old new tells.0) (sym of) tells.2)
+tells_words (task.Counts t) next name uid words old new before after ended of tells = absurd (cc of)
+tells_words (task.Make t) next name uid words old new before after ended of tells = absurd (cc of)
+tells_words (task.Copy t) next name uid words old new before after ended of tells = absurd (cc of)
+tells_words (task.Move t) next name uid words old new before after ended of tells = absurd (cc of)
+tells_words (task.Expunge t) next name uid words old new before after ended of tells = absurd (cc of)
+tells_words (task.Fetch t) next name uid words old new before after ended of tells = absurd (cc of)
+tells_words (task.Resync t) next name uid words old new before after ended of tells = absurd (cc of)
+tells_words (task.Purge t) next name uid words old new before after ended of tells = absurd (cc of)
+tells_words (task.Delete t) next name uid words old new before after ended of tells = absurd (cc of)
+tells_words (task.Rename t) next name uid words old new before after ended of tells = absurd (cc of)
+tells_words (task.Deliver t) next name uid words old new before after ended of tells = absurd of
+
 -- ---- an expunge
 
 -- nothing has happened, or the message was there

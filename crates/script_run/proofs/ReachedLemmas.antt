@@ -82,6 +82,7 @@ step_at around after start (request.Rename name target) run journal one copies n
     absurd (rename_behind (around (suc n)) (before (suc n) run) name target b.0 b.0.refused event.part b.2)
 step_at around after start (request.List name) run journal one copies next n event at part = first_only around after start (request.List name) run journal one next n event at
 step_at around after start (request.Flag name uid flags) run journal one copies next n event at part = first_only around after start (request.Flag name uid flags) run journal one next n event at
+step_at around after start (request.Keywords name uid words) run journal one copies next n event at part = first_only around after start (request.Keywords name uid words) run journal one next n event at
 step_at around after start request.Counts run journal one copies next n event at part = first_only around after start request.Counts run journal one next n event at
 step_at around after start other run journal one copies next n event at part = absurd one
 
@@ -92,6 +93,8 @@ does_at (request.List name) one run event First given old new d = refl
 does_at (request.List name) one run event part given old new d = absurd d
 does_at (request.Flag name uid flags) one run event First given old new d = refl
 does_at (request.Flag name uid flags) one run event part given old new d = absurd d
+does_at (request.Keywords name uid words) one run event First given old new d = refl
+does_at (request.Keywords name uid words) one run event part given old new d = absurd d
 does_at request.Counts one run event First given old new d = refl
 does_at request.Counts one run event part given old new d = absurd d
 does_at (request.Expunge name uid) one run event First given old new d = refl

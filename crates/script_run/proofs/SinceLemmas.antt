@@ -18,7 +18,7 @@ use Rattle.list_machine.specs.Run.{Run, RunEvent, and_then}
 use Rattle.journal.specs.Journal.{Broken, JournalStep, Requests}
 use Rattle.store_core.specs.Value.{StoreValue}
 use Rattle.task_steps.specs.Step.{Seen, ended_by}
-use Rattle.lane_tasks.specs.Clause.{AnswersReads, DoomsNone, IsAtStart, OnlyReads, ReadsNoOctets, RemovesNothing, SetsNoFlags, TaskKeeps}
+use Rattle.lane_tasks.specs.Clause.{AnswersReads, DoomsNone, IsAtStart, OnlyReads, ReadsNoOctets, RemovesNothing, SetsNothing, TaskKeeps}
 use Rattle.lane_tasks.specs.Tasks.{BeginsTask, IsTaskOf}
 use Rattle.lane_tasks.specs.declared.task.Task.{Task}
 use Rattle.lane_tasks.specs.declared.task.Task.TheVariants as task
@@ -96,8 +96,9 @@ pub reads_unpurged : (asked : Request) → only_reads asked ≡ true → is_purg
 reads_unpurged request.Purge reads = absurd (let k : false ≡ true = reads in cc k)
 reads_unpurged asked reads = refl
 
-sets_none : (asked : Request) → only_reads asked ≡ true → SetsNoFlags asked
+sets_none : (asked : Request) → only_reads asked ≡ true → SetsNothing asked
 sets_none (request.Flag name uid flags) reads = absurd (let k : false ≡ true = reads in cc k)
+sets_none (request.Keywords name uid words) reads = absurd (let k : false ≡ true = reads in cc k)
 sets_none asked reads = tt
 
 -- a request that reads at the most begins with such a task
@@ -105,7 +106,7 @@ reads_as : (asked kind : Request) → only_reads kind ≡ false → asked ≡ ki
 reads_as asked kind changes is reads = let k : true ≡ false = sym reads ∙ (ap only_reads is ∙ changes) in cc k
 
 reads_task : (asked : Request) (t : Task) → only_reads asked ≡ true → IsTaskOf t asked → OnlyReads t
-reads_task asked (task.Ops t) reads of = subst SetsNoFlags of (sets_none asked reads)
+reads_task asked (task.Ops t) reads of = subst SetsNothing of (sets_none asked reads)
 reads_task asked (task.Counts t) reads of = tt
 reads_task asked (task.Make t) reads of = absurd (reads_as asked (request.Make t.name) refl of reads)
 reads_task asked (task.Copy t) reads of = absurd (reads_as asked (request.Copy t.name t.uid t.target) refl of reads)

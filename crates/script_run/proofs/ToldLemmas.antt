@@ -70,6 +70,10 @@ flag_told : (run : Run) (event : RunEvent) (name : List ℕ) (uid : Uid) (flags 
 flag_told run event name uid flags First reply.Done old new d = d
 flag_told run event name uid flags part given old new d = absurd d
 
+words_told : (run : Run) (event : RunEvent) (name : List ℕ) (uid : Uid) (words : List (List ℕ)) (part : EventPart) (given : Reply) (old new : Lists) → Does run event old (request.Keywords name uid words) part given new → AreListsTold (request.Keywords name uid words) given old new
+words_told run event name uid words First reply.Done old new d = d
+words_told run event name uid words part given old new d = absurd d
+
 make_told : (run : Run) (event : RunEvent) (name : List ℕ) (part : EventPart) (given : Reply) (old new : Lists) → Does run event old (request.Make name) part given new → AreListsTold (request.Make name) given old new
 make_told run event name Last reply.Done old new d = (d.number, d.above, d.new_is)
 make_told run event name part given old new d = absurd d
@@ -119,6 +123,7 @@ does_told (request.Deliver name time octets) run event part given old new m d = 
 does_told (request.List name) run event part given old new m d = list_told run event name part given old new d
 does_told (request.Fetch name uid) run event part given old new m d = fetch_told run event name uid part given old new d
 does_told (request.Flag name uid flags) run event part given old new m d = flag_told run event name uid flags part given old new d
+does_told (request.Keywords name uid words) run event part given old new m d = words_told run event name uid words part given old new d
 does_told (request.Copy name uid target) run event part given old new m d = copy_told run event name uid target part given old new d
 does_told (request.Move name uid target) run event part given old new m d = absurd (m tt)
 does_told (request.Expunge name uid) run event part given old new m d = expunge_told run event name uid part given old new d

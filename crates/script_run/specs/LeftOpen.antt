@@ -42,9 +42,9 @@ pub record IsServedOpen {D : Type 0} (script : Requests) (given : List Reply) (e
   pub undone : IsUndoneAlone script given → IsIdle done.leaves.opened new
   pub unmade : IsUnmadeAlone script given → ReadAlike done.leaves.opened new
 
--- A request alone was done, as a script of its own, and logs mean this now, which have come to what it leaves; flags are set, or not, and
--- a message is removed, or not, as the logs said with which the store opened. Where it isn't removed, nothing has changed since then,
--- unless the store is stopped. Where a mailbox isn't made, each file reads as it did then.
+-- A request alone was done, as a script of its own, and logs mean this now, which have come to what it leaves; flags or keywords are set, or not,
+-- and a message is removed, or not, as the logs said with which the store opened. Where it isn't removed, or keywords aren't set, nothing
+-- has changed since then, unless the store is stopped. Where a mailbox isn't made, each file reads as it did then.
 pub record IsRequestDone (request : Request) (given : Reply) (old new : Option History) (began now : Faults) : Type 0 where
   pub entries : List JournalEntry
   pub done : IsScriptDone (alone request) (given ∷ []) entries old new began now

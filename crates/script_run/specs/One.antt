@@ -19,7 +19,7 @@ use Rattle.model_meaning.specs.BoxMeaning.{BoxMeaning, box_meaning, row_at}
 use Rattle.model_meaning.specs.MapMeaning.{MapMeaning, count_of, map_applied, map_meaning}
 use Rattle.model_store.specs.Listing.{meaning_named}
 use Rattle.model_store.specs.Settled.{IsSettledFor}
-use Rattle.list_machine.specs.Machine.{Answers, add_message, delete_mailbox, expunge, is_used_up, refused_where, rename_mailbox, set_flags}
+use Rattle.list_machine.specs.Machine.{Answers, add_message, delete_mailbox, expunge, is_used_up, refused_where, rename_mailbox, set_flags, set_words}
 use Rattle.list_machine.specs.Run.{First, Run, RunEvent, map_of}
 use Rattle.journal.specs.Journal.{JournalStep, Broken, Requests, left_by}
 use Rattle.journal.specs.Makes.{IsServed}
@@ -50,6 +50,7 @@ lists_behind name uid target gone lists = if gone then copied_lists name uid tar
 abbrev pub lists_told : Request → Reply → Lists → Lists
 lists_told (request.Deliver name time octets) (reply.Saved uid guid) lists = saved_lists name time octets guid lists
 lists_told (request.Flag name uid flags) reply.Done lists = set_flags name uid.0 flags lists
+lists_told (request.Keywords name uid words) reply.Done lists = set_words name uid.0 words lists
 lists_told (request.Expunge name uid) reply.Done lists = expunge name uid.0 lists
 lists_told (request.Delete name) reply.Done lists = delete_mailbox name lists
 lists_told (request.Rename name target) reply.Done lists = rename_mailbox name target lists
@@ -78,6 +79,7 @@ alone request = (1, request) ∷ []
 abbrev pub HasOneEvent : Request → Type 0
 HasOneEvent (request.List name) = Unit {0}
 HasOneEvent (request.Flag name uid flags) = Unit {0}
+HasOneEvent (request.Keywords name uid words) = Unit {0}
 HasOneEvent request.Counts = Unit {0}
 HasOneEvent other = ⊥
 
@@ -216,14 +218,15 @@ ReadAlike = Between (λ a b. (name : FileName) → reading (b name) ≡ reading 
 abbrev pub AreAlongMake : ℕ → List ℕ → Lists → Lists → Type 0
 AreAlongMake number name lists some = (some ≡ lists) ⊎ (some ≡ with_mailbox number name lists)
 
--- The reply to a make, a deletion, a renaming, a setting of flags, an expunge, a copy or a move alone is so by the logs with which the
--- store opened.
+-- The reply to a make, a deletion, a renaming, a setting of flags or keywords, an expunge, a copy or a move alone is so by the logs with
+-- which the store opened.
 abbrev pub IsToldAlone : Requests → MapMeaning → List BoxMeaning → List Reply → Type 0
 IsToldAlone ((lane, request.Make name) ∷ []) m meanings (given ∷ []) = IsChangeAnswer (unmade_cause (meaning_named name m.boxes meanings) m) given
 IsToldAlone ((lane, request.Delete name) ∷ []) m meanings (given ∷ []) = IsChangeAnswer (undeleted_cause name (meaning_named name m.boxes meanings)) given
 IsToldAlone ((lane, request.Rename name target) ∷ []) m meanings (given ∷ []) =
     IsChangeAnswer (unrenamed_cause name (meaning_named name m.boxes meanings) (meaning_named target m.boxes meanings)) given
 IsToldAlone ((lane, request.Flag name uid flags) ∷ []) m meanings (given ∷ []) = IsFlagAnswer (missing_cause (meaning_named name m.boxes meanings) uid.0) given
+IsToldAlone ((lane, request.Keywords name uid words) ∷ []) m meanings (given ∷ []) = IsChangeAnswer (missing_cause (meaning_named name m.boxes meanings) uid.0) given
 IsToldAlone ((lane, request.Expunge name uid) ∷ []) m meanings (given ∷ []) = IsChangeAnswer (missing_cause (meaning_named name m.boxes meanings) uid.0) given
 IsToldAlone ((lane, request.Copy name uid target) ∷ []) m meanings (given ∷ []) =
     IsCopyAnswer (uncopied_cause (meaning_named name m.boxes meanings) (meaning_named target m.boxes meanings) m uid.0) (meaning_named target m.boxes meanings) given
@@ -231,13 +234,14 @@ IsToldAlone ((lane, request.Move name uid target) ∷ []) m meanings (given ∷ 
     IsMoveAnswer (uncopied_cause (meaning_named name m.boxes meanings) (meaning_named target m.boxes meanings) m uid.0) (meaning_named target m.boxes meanings) given
 IsToldAlone script m meanings given = Unit {0}
 
--- A make, a deletion, a renaming, an expunge, a copy, a move, a resync or a purge alone was refused, and the store isn't stopped: nothing
--- has changed since the opening. So it is of a deletion, a renaming, an expunge, a resync and a purge also for want of memory; of a purge
--- not if a read failed.
+-- A make, a deletion, a renaming, a setting of keywords, an expunge, a copy, a move, a resync or a purge alone was refused, and the store
+-- isn't stopped: nothing has changed since the opening. So it is of a deletion, a renaming, a setting of keywords, an expunge, a resync and
+-- a purge also for want of memory; of a purge not if a read failed.
 abbrev pub IsUndoneAlone : Requests → List Reply → Type 0
 IsUndoneAlone ((lane, request.Make name) ∷ []) (reply.Refused why ∷ []) = (why ≡ refusal.Stopped → ⊥) × (why ≡ refusal.NoMemory → ⊥)
 IsUndoneAlone ((lane, request.Delete name) ∷ []) (reply.Refused why ∷ []) = why ≡ refusal.Stopped → ⊥
 IsUndoneAlone ((lane, request.Rename name target) ∷ []) (reply.Refused why ∷ []) = why ≡ refusal.Stopped → ⊥
+IsUndoneAlone ((lane, request.Keywords name uid words) ∷ []) (reply.Refused why ∷ []) = why ≡ refusal.Stopped → ⊥
 IsUndoneAlone ((lane, request.Expunge name uid) ∷ []) (reply.Refused why ∷ []) = why ≡ refusal.Stopped → ⊥
 IsUndoneAlone ((lane, request.Copy name uid target) ∷ []) (reply.Refused why ∷ []) = (why ≡ refusal.Stopped → ⊥) × (why ≡ refusal.NoMemory → ⊥)
 IsUndoneAlone ((lane, request.Move name uid target) ∷ []) (reply.Refused why ∷ []) = (why ≡ refusal.Stopped → ⊥) × (why ≡ refusal.NoMemory → ⊥)

@@ -7,6 +7,7 @@ use Rattle.mdbox_base.specs.Numbers.{decimal_text}
 use Rattle.mdbox_base.specs.Words.{IsName, IsNumber, is_other_than}
 use Rattle.mdbox_base.specs.declared.requests.Request.{Request}
 use Rattle.mdbox_base.specs.declared.requests.Request.TheVariants as request
+use Rattle.mdbox_base.proofs.KeywordLemmas.{no_words}
 use Rattle.script_text.specs.Flaws.{Has, Lacks, IsNeeded, verb_word, request_front}
 use Rattle.script_text.specs.Reading.{AreDelivery, AsksNothing, BeginsVerb, IsRequestOf, IsWordsOrMessage}
 use Rattle.script_text.specs.MadeScript.{lane_name}
@@ -127,6 +128,9 @@ fetch_begins text e = (request.Fetch (lane_name 1) (record { 0 = 1 }), e.0, (nam
 pub flag_begins : (text : List ℕ) → ((after : List ℕ) × (text ≡ codes "flag" ++ after)) → BeginsVerb text
 flag_begins text e = (request.Flag (lane_name 1) (record { 0 = 1 }) 0, e.0, (named, one_uid, omega arith), e.1)
 
+pub keywords_begins : (text : List ℕ) → ((after : List ℕ) × (text ≡ codes "keywords" ++ after)) → BeginsVerb text
+keywords_begins text e = (request.Keywords (lane_name 1) (record { 0 = 1 }) [], e.0, (named, one_uid, no_words), e.1)
+
 pub copy_begins : (text : List ℕ) → ((after : List ℕ) × (text ≡ codes "copy" ++ after)) → BeginsVerb text
 copy_begins text e = (request.Copy (lane_name 1) (record { 0 = 1 }) (lane_name 1), e.0, (named, one_uid, named), e.1)
 
@@ -156,23 +160,24 @@ resync_begins text e = (request.Resync, e.0, tt, e.1)
 
 -- no verb begins that isn't one of these
 -- a request's verb is one of the verbs
-of_asked : (text : List ℕ) → (((after : List ℕ) × (text ≡ codes "deliver" ++ after)) → ⊥) → (((after : List ℕ) × (text ≡ codes "list" ++ after)) → ⊥) → (((after : List ℕ) × (text ≡ codes "fetch" ++ after)) → ⊥) → (((after : List ℕ) × (text ≡ codes "flag" ++ after)) → ⊥) → (((after : List ℕ) × (text ≡ codes "copy" ++ after)) → ⊥) → (((after : List ℕ) × (text ≡ codes "move" ++ after)) → ⊥) → (((after : List ℕ) × (text ≡ codes "expunge" ++ after)) → ⊥) → (((after : List ℕ) × (text ≡ codes "make" ++ after)) → ⊥) → (((after : List ℕ) × (text ≡ codes "delete" ++ after)) → ⊥) → (((after : List ℕ) × (text ≡ codes "rename" ++ after)) → ⊥) → (((after : List ℕ) × (text ≡ codes "counts" ++ after)) → ⊥) → (((after : List ℕ) × (text ≡ codes "purge" ++ after)) → ⊥) → (((after : List ℕ) × (text ≡ codes "resync" ++ after)) → ⊥) → (asked : Request) (after : List ℕ) → FitsScript asked → text ≡ verb_word asked ++ after → ⊥
-of_asked text n0 n1 n2 n3 n4 n5 n6 n7 n8 n9 n10 n11 n12 (request.Deliver name time message) after f e = n0 (after, e)
-of_asked text n0 n1 n2 n3 n4 n5 n6 n7 n8 n9 n10 n11 n12 (request.List name) after f e = n1 (after, e)
-of_asked text n0 n1 n2 n3 n4 n5 n6 n7 n8 n9 n10 n11 n12 (request.Fetch name uid) after f e = n2 (after, e)
-of_asked text n0 n1 n2 n3 n4 n5 n6 n7 n8 n9 n10 n11 n12 (request.Flag name uid flags) after f e = n3 (after, e)
-of_asked text n0 n1 n2 n3 n4 n5 n6 n7 n8 n9 n10 n11 n12 (request.Copy name uid target) after f e = n4 (after, e)
-of_asked text n0 n1 n2 n3 n4 n5 n6 n7 n8 n9 n10 n11 n12 (request.Move name uid target) after f e = n5 (after, e)
-of_asked text n0 n1 n2 n3 n4 n5 n6 n7 n8 n9 n10 n11 n12 (request.Expunge name uid) after f e = n6 (after, e)
-of_asked text n0 n1 n2 n3 n4 n5 n6 n7 n8 n9 n10 n11 n12 (request.Make name) after f e = n7 (after, e)
-of_asked text n0 n1 n2 n3 n4 n5 n6 n7 n8 n9 n10 n11 n12 request.Counts after f e = n10 (after, e)
-of_asked text n0 n1 n2 n3 n4 n5 n6 n7 n8 n9 n10 n11 n12 request.Purge after f e = n11 (after, e)
-of_asked text n0 n1 n2 n3 n4 n5 n6 n7 n8 n9 n10 n11 n12 request.Resync after f e = n12 (after, e)
-of_asked text n0 n1 n2 n3 n4 n5 n6 n7 n8 n9 n10 n11 n12 (request.Delete name) after f e = n8 (after, e)
-of_asked text n0 n1 n2 n3 n4 n5 n6 n7 n8 n9 n10 n11 n12 (request.Rename name target) after f e = n9 (after, e)
+of_asked : (text : List ℕ) → (((after : List ℕ) × (text ≡ codes "deliver" ++ after)) → ⊥) → (((after : List ℕ) × (text ≡ codes "list" ++ after)) → ⊥) → (((after : List ℕ) × (text ≡ codes "fetch" ++ after)) → ⊥) → (((after : List ℕ) × (text ≡ codes "flag" ++ after)) → ⊥) → (((after : List ℕ) × (text ≡ codes "copy" ++ after)) → ⊥) → (((after : List ℕ) × (text ≡ codes "move" ++ after)) → ⊥) → (((after : List ℕ) × (text ≡ codes "expunge" ++ after)) → ⊥) → (((after : List ℕ) × (text ≡ codes "make" ++ after)) → ⊥) → (((after : List ℕ) × (text ≡ codes "delete" ++ after)) → ⊥) → (((after : List ℕ) × (text ≡ codes "rename" ++ after)) → ⊥) → (((after : List ℕ) × (text ≡ codes "counts" ++ after)) → ⊥) → (((after : List ℕ) × (text ≡ codes "purge" ++ after)) → ⊥) → (((after : List ℕ) × (text ≡ codes "keywords" ++ after)) → ⊥) → (((after : List ℕ) × (text ≡ codes "resync" ++ after)) → ⊥) → (asked : Request) (after : List ℕ) → FitsScript asked → text ≡ verb_word asked ++ after → ⊥
+of_asked text n0 n1 n2 n3 n4 n5 n6 n7 n8 n9 n10 n11 n12 n13 (request.Deliver name time message) after f e = n0 (after, e)
+of_asked text n0 n1 n2 n3 n4 n5 n6 n7 n8 n9 n10 n11 n12 n13 (request.List name) after f e = n1 (after, e)
+of_asked text n0 n1 n2 n3 n4 n5 n6 n7 n8 n9 n10 n11 n12 n13 (request.Fetch name uid) after f e = n2 (after, e)
+of_asked text n0 n1 n2 n3 n4 n5 n6 n7 n8 n9 n10 n11 n12 n13 (request.Flag name uid flags) after f e = n3 (after, e)
+of_asked text n0 n1 n2 n3 n4 n5 n6 n7 n8 n9 n10 n11 n12 n13 (request.Keywords name uid words) after f e = n12 (after, e)
+of_asked text n0 n1 n2 n3 n4 n5 n6 n7 n8 n9 n10 n11 n12 n13 (request.Copy name uid target) after f e = n4 (after, e)
+of_asked text n0 n1 n2 n3 n4 n5 n6 n7 n8 n9 n10 n11 n12 n13 (request.Move name uid target) after f e = n5 (after, e)
+of_asked text n0 n1 n2 n3 n4 n5 n6 n7 n8 n9 n10 n11 n12 n13 (request.Expunge name uid) after f e = n6 (after, e)
+of_asked text n0 n1 n2 n3 n4 n5 n6 n7 n8 n9 n10 n11 n12 n13 (request.Make name) after f e = n7 (after, e)
+of_asked text n0 n1 n2 n3 n4 n5 n6 n7 n8 n9 n10 n11 n12 n13 request.Counts after f e = n10 (after, e)
+of_asked text n0 n1 n2 n3 n4 n5 n6 n7 n8 n9 n10 n11 n12 n13 request.Purge after f e = n11 (after, e)
+of_asked text n0 n1 n2 n3 n4 n5 n6 n7 n8 n9 n10 n11 n12 n13 request.Resync after f e = n13 (after, e)
+of_asked text n0 n1 n2 n3 n4 n5 n6 n7 n8 n9 n10 n11 n12 n13 (request.Delete name) after f e = n8 (after, e)
+of_asked text n0 n1 n2 n3 n4 n5 n6 n7 n8 n9 n10 n11 n12 n13 (request.Rename name target) after f e = n9 (after, e)
 
-pub none_begins : (text : List ℕ) → (((after : List ℕ) × (text ≡ codes "deliver" ++ after)) → ⊥) → (((after : List ℕ) × (text ≡ codes "list" ++ after)) → ⊥) → (((after : List ℕ) × (text ≡ codes "fetch" ++ after)) → ⊥) → (((after : List ℕ) × (text ≡ codes "flag" ++ after)) → ⊥) → (((after : List ℕ) × (text ≡ codes "copy" ++ after)) → ⊥) → (((after : List ℕ) × (text ≡ codes "move" ++ after)) → ⊥) → (((after : List ℕ) × (text ≡ codes "expunge" ++ after)) → ⊥) → (((after : List ℕ) × (text ≡ codes "make" ++ after)) → ⊥) → (((after : List ℕ) × (text ≡ codes "delete" ++ after)) → ⊥) → (((after : List ℕ) × (text ≡ codes "rename" ++ after)) → ⊥) → (((after : List ℕ) × (text ≡ codes "counts" ++ after)) → ⊥) → (((after : List ℕ) × (text ≡ codes "purge" ++ after)) → ⊥) → (((after : List ℕ) × (text ≡ codes "resync" ++ after)) → ⊥) → BeginsVerb text → ⊥
-none_begins text n0 n1 n2 n3 n4 n5 n6 n7 n8 n9 n10 n11 n12 b = of_asked text n0 n1 n2 n3 n4 n5 n6 n7 n8 n9 n10 n11 n12 b.0 b.1 b.2 b.3
+pub none_begins : (text : List ℕ) → (((after : List ℕ) × (text ≡ codes "deliver" ++ after)) → ⊥) → (((after : List ℕ) × (text ≡ codes "list" ++ after)) → ⊥) → (((after : List ℕ) × (text ≡ codes "fetch" ++ after)) → ⊥) → (((after : List ℕ) × (text ≡ codes "flag" ++ after)) → ⊥) → (((after : List ℕ) × (text ≡ codes "copy" ++ after)) → ⊥) → (((after : List ℕ) × (text ≡ codes "move" ++ after)) → ⊥) → (((after : List ℕ) × (text ≡ codes "expunge" ++ after)) → ⊥) → (((after : List ℕ) × (text ≡ codes "make" ++ after)) → ⊥) → (((after : List ℕ) × (text ≡ codes "delete" ++ after)) → ⊥) → (((after : List ℕ) × (text ≡ codes "rename" ++ after)) → ⊥) → (((after : List ℕ) × (text ≡ codes "counts" ++ after)) → ⊥) → (((after : List ℕ) × (text ≡ codes "purge" ++ after)) → ⊥) → (((after : List ℕ) × (text ≡ codes "keywords" ++ after)) → ⊥) → (((after : List ℕ) × (text ≡ codes "resync" ++ after)) → ⊥) → BeginsVerb text → ⊥
+none_begins text n0 n1 n2 n3 n4 n5 n6 n7 n8 n9 n10 n11 n12 n13 b = of_asked text n0 n1 n2 n3 n4 n5 n6 n7 n8 n9 n10 n11 n12 n13 b.0 b.1 b.2 b.3
 
 -- a test that says no
 pub refused_by : {P : Type 0} → (r : Bool) → IsTrue r ↔ P → r ≡ false → P → ⊥

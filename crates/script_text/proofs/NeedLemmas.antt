@@ -29,6 +29,7 @@ after_verb (request.Deliver name time message) = (_, refl)
 after_verb (request.List name) = (_, refl)
 after_verb (request.Fetch name uid) = (_, refl)
 after_verb (request.Flag name uid flags) = (_, refl)
+after_verb (request.Keywords name uid words) = (_, refl)
 after_verb (request.Copy name uid target) = (_, refl)
 after_verb (request.Move name uid target) = (_, refl)
 after_verb (request.Expunge name uid) = (_, refl)
@@ -65,7 +66,7 @@ line_in_line asked = ([], sym (append-nil (request_line asked ++ 10 ∷ [])))
 
 -- A text that was taken: all that was left; or a line, its LF and more; or more than a line can have.
 abbrev pub IsPiece : List ℕ → List ℕ → Type 0
-IsPiece text rest = (rest ≡ []) ⊎ (((line : List ℕ) × (more : List ℕ) × (text ≡ line ++ 10 ∷ more) × HasNoLf line) ⊎ (1024 < length text))
+IsPiece text rest = (rest ≡ []) ⊎ (((line : List ℕ) × (more : List ℕ) × (text ≡ line ++ 10 ∷ more) × HasNoLf line) ⊎ (4096 < length text))
 
 -- a front of a line that begins the source stands in what was taken of it
 front_taken : (lanes : ℕ) (text rest front after : List ℕ) (asked : ℕ × Request) → lanes < 2 ^ 32 → FitsLanes lanes asked → IsPiece text rest → text ++ rest ≡ front ++ after → StandsInLine front asked → length front ≤ length text

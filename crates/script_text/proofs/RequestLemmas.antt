@@ -53,6 +53,7 @@ lane_first lane (request.Deliver name time message) = refl
 lane_first lane (request.List name) = refl
 lane_first lane (request.Fetch name uid) = refl
 lane_first lane (request.Flag name uid flags) = refl
+lane_first lane (request.Keywords name uid words) = refl
 lane_first lane (request.Copy name uid target) = refl
 lane_first lane (request.Move name uid target) = refl
 lane_first lane (request.Expunge name uid) = refl

@@ -50,7 +50,7 @@ words_short request.Resync p = omega arith
 words_short (request.Delete name) p = let h = name_short name p in omega (arith, h)
 words_short (request.Rename name target) p = let h = two_short (name_word name) (name_word target) 276 276 (name_short name p.0) (name_short target p.1) in omega (arith, h)
 
-pub line_short : (lanes : ℕ) (asked : ℕ × Request) → lanes < 2 ^ 32 → FitsLanes lanes asked → length (request_line asked) ≤ 1024
+pub line_short : (lanes : ℕ) (asked : ℕ × Request) → lanes < 2 ^ 32 → FitsLanes lanes asked → length (request_line asked) ≤ 4096
 line_short lanes asked small fits =
     let last = fits.last in
     let h = two_short (decimal_text asked.0) (spaced (request_words asked.1)) 20 600 (number_short asked.0 (omega (arith, small, last))) (words_short asked.1 fits.fits) in
@@ -99,7 +99,7 @@ words_of_line lanes asked text line rest small fits cut clear is =
 -- ---- what was taken is no request, so none stands in front of the source
 
 -- a text without an LF that is no shorter than a line can be begins no request
-long_line : (lanes : ℕ) (text rest : List ℕ) → lanes < 2 ^ 32 → HasNoLf text → 1024 < length text → BeginsNoRequest lanes (text ++ rest)
+long_line : (lanes : ℕ) (text rest : List ℕ) → lanes < 2 ^ 32 → HasNoLf text → 4096 < length text → BeginsNoRequest lanes (text ++ rest)
 long_line lanes text rest small clear long asked after fits e =
     let short = line_short lanes asked small fits in
     let same : text ++ rest ≡ (request_line asked ++ 10 ∷ []) ++ (message_text asked.1 ++ after) =
@@ -163,7 +163,7 @@ none_in_front lanes count line text mid new small is takes counts bad rest left 
         (whole_line lanes own takes.0 rest small clear (λ asked fits e. counts asked fits (own_is ∙ e) ∙ sym all) (subst (λ (t : List ℕ). BeginsNoRequest lanes t) same bad))
     by_line (inr (clear, why)) (inl all) = by_cause why
       where
-        by_cause : IsAtEnd mid ⊎ (1024 < length line) → BeginsNoRequest lanes (text ++ rest)
+        by_cause : IsAtEnd mid ⊎ (4096 < length line) → BeginsNoRequest lanes (text ++ rest)
         by_cause (inl end) = at_last lanes text rest (none_left mid new takes.0 rest takes.2 left end) bad
         by_cause (inr many) = subst (λ (t : List ℕ). BeginsNoRequest lanes t) (sym (ap (λ (t : List ℕ). t ++ rest) text_is ∙ append_assoc line takes.0 rest)) (long_line lanes line (takes.0 ++ rest) small clear many)
 

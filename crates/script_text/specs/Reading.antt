@@ -1,7 +1,8 @@
 -- What is found of a request in the words of a line and what follows the line.
-use Rattle.std.specs.Prelude.{◌≡◌, ◌≤◌, ◌<◌, ◌^◌, ℕ, List, [], ◌∷◌, ◌++◌, codes}
+use Rattle.std.specs.Prelude.{◌≡◌, ◌≤◌, ◌<◌, ◌^◌, ℕ, List, [], ◌∷◌, ◌++◌, length, All, IsTrue, codes}
+use Rattle.std.specs.List.{list_all}
 use Rattle.mdbox_base.specs.Numbers.{decimal_text}
-use Rattle.mdbox_base.specs.Words.{IsName}
+use Rattle.mdbox_base.specs.Words.{IsName, is_other_than}
 use Rattle.mdbox_base.specs.declared.requests.Request.{Request}
 use Rattle.mdbox_base.specs.declared.requests.Request.TheVariants as request
 use Rattle.script_text.specs.Flaws.{verb_word}
@@ -33,12 +34,17 @@ verb_text verb.Deliver = codes "deliver"
 verb_text verb.List = codes "list"
 verb_text verb.Fetch = codes "fetch"
 verb_text verb.Flag = codes "flag"
+verb_text verb.Keywords = codes "keywords"
 verb_text verb.Copy = codes "copy"
 verb_text verb.Move = codes "move"
 verb_text verb.Expunge = codes "expunge"
 verb_text verb.Make = codes "make"
 verb_text verb.Delete = codes "delete"
 verb_text verb.Rename = codes "rename"
+
+-- words without a space in them, of which the text consists, a space between any two
+abbrev pub AreTextsOf : List (List ℕ) → List ℕ → Type 0
+AreTextsOf texts text = (1 ≤ length texts) × All (λ word. IsTrue (list_all (is_other_than 32) word)) texts × (text ≡ spaced texts)
 
 -- a request has the verb in front of the text
 abbrev pub BeginsVerb : List ℕ → Type 0

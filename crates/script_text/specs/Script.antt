@@ -1,6 +1,7 @@
 -- Scripts: the requests of several lanes, as a text.
 use Rattle.std.specs.Prelude.{◌≡◌, ◌≤◌, ◌<◌, ◌^◌, ℕ, List, [], ◌∷◌, ◌++◌, length, flat_map, codes, Result, Ok, Err, ◌⊎◌}
 use Rattle.std.specs.List.{AllByRecursion}
+use Rattle.mdbox_base.specs.Keywords.{AreWords}
 use Rattle.mdbox_base.specs.Numbers.{decimal_text}
 use Rattle.mdbox_base.specs.Words.{IsNumber, IsName}
 use Rattle.mdbox_base.specs.declared.requests.Request.{Request}
@@ -13,12 +14,13 @@ use Rattle.script_text.specs.declared.error.ScriptError.TheVariants as script_er
 abbrev pub name_word : List ℕ → List ℕ
 name_word name = decimal_text (length name) ++ 58 ∷ name
 
--- The words of a request. Numbers are decimal, without leading zeros; of a message its size stands here.
+-- The words of a request. Numbers are decimal, without leading zeros; of a message its size stands here, and before keywords how many there are.
 abbrev pub request_words : Request → List (List ℕ)
 request_words (request.Deliver name time message) = codes "deliver" ∷ name_word name ∷ decimal_text time ∷ decimal_text (length message) ∷ []
 request_words (request.List name) = codes "list" ∷ name_word name ∷ []
 request_words (request.Fetch name uid) = codes "fetch" ∷ name_word name ∷ decimal_text uid.0 ∷ []
 request_words (request.Flag name uid flags) = codes "flag" ∷ name_word name ∷ decimal_text uid.0 ∷ decimal_text flags ∷ []
+request_words (request.Keywords name uid words) = codes "keywords" ∷ name_word name ∷ decimal_text uid.0 ∷ decimal_text (length words) ∷ words
 request_words (request.Copy name uid target) = codes "copy" ∷ name_word name ∷ decimal_text uid.0 ∷ name_word target ∷ []
 request_words (request.Move name uid target) = codes "move" ∷ name_word name ∷ decimal_text uid.0 ∷ name_word target ∷ []
 request_words (request.Expunge name uid) = codes "expunge" ∷ name_word name ∷ decimal_text uid.0 ∷ []
@@ -47,13 +49,14 @@ request_text asked = spaced (decimal_text asked.0 ∷ request_words asked.1) ++ 
 abbrev pub script_text : List (ℕ × Request) → List ℕ
 script_text requests = flat_map request_text requests
 
--- Names are those of mailboxes, UIDs are from 1 to 4,294,967,294, flags are a sum of bits up to 16, a time is below 2 ^ 64,
--- and a message has at most 67,108,864 octets.
+-- Names are those of mailboxes, UIDs are from 1 to 4,294,967,294, flags are a sum of bits up to 16, keywords are those of a
+-- message, a time is below 2 ^ 64, and a message has at most 67,108,864 octets.
 abbrev pub FitsScript : Request → Type 0
 FitsScript (request.Deliver name time message) = IsName name × (time < 2 ^ 64) × (length message ≤ 67108864)
 FitsScript (request.List name) = IsName name
 FitsScript (request.Fetch name uid) = IsName name × IsNumber uid.0
 FitsScript (request.Flag name uid flags) = IsName name × IsNumber uid.0 × (flags ≤ 31)
+FitsScript (request.Keywords name uid words) = IsName name × IsNumber uid.0 × AreWords words
 FitsScript (request.Copy name uid target) = IsName name × IsNumber uid.0 × IsName target
 FitsScript (request.Move name uid target) = IsName name × IsNumber uid.0 × IsName target
 FitsScript (request.Expunge name uid) = IsName name × IsNumber uid.0

@@ -40,9 +40,9 @@ request_line asked = spaced (decimal_text asked.0 ∷ request_words asked.1)
 abbrev pub HasNoLf : List ℕ → Type 0
 HasNoLf text = IsTrue (list_all (is_other_than 10) text)
 
--- What was taken is a line and its LF; or all that was left of the source, or more than 1,024 octets, without an LF.
+-- What was taken is a line and its LF; or all that was left of the source, or more than 4,096 octets, without an LF.
 abbrev pub IsLineTaken : List ℕ → Option (List ℕ) → Type 0
-IsLineTaken text left = ((line : List ℕ) × (text ≡ line ++ 10 ∷ []) × HasNoLf line) ⊎ (HasNoLf text × (IsAtEnd left ⊎ (1024 < length text)))
+IsLineTaken text left = ((line : List ℕ) × (text ≡ line ++ 10 ∷ []) × HasNoLf line) ⊎ (HasNoLf text × (IsAtEnd left ⊎ (4096 < length text)))
 
 -- So many octets were added to a text from a source, or fewer, all that were left of it.
 abbrev pub TakesUpTo : ℕ → List ℕ → List ℕ → Option (List ℕ) → Option (List ℕ) → Type 0

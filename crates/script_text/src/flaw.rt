@@ -137,6 +137,9 @@ fn begins_verb(text: &[u8]) -> bool
     if begins(text, b"purge") {
         return true;
     }
+    if begins(text, b"keywords") {
+        return true;
+    }
     begins(text, b"resync")
 }
 

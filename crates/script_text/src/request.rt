@@ -8,6 +8,7 @@ ghost use Rattle.mdbox_base.specs.declared.requests.Request.{Request};
 
 use crate::arguments::{
     name_alone, name_and_name, name_and_uid, name_time_size, name_uid_flags, name_uid_name,
+    name_uid_words,
 };
 use crate::cut::cut;
 use crate::error::Flaw;
@@ -103,6 +104,10 @@ fn asked_with<'a>(
         Verb::Flag => {
             let (name, uid, flags) = name_uid_flags(alloc, arguments)?;
             Ok((Request::Flag { name, uid, flags }, rest))
+        }
+        Verb::Keywords => {
+            let (name, uid, words) = name_uid_words(alloc, arguments)?;
+            Ok((Request::Keywords { name, uid, words }, rest))
         }
         Verb::Copy => {
             let (name, uid, target) = name_uid_name(alloc, arguments)?;

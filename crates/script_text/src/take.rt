@@ -13,8 +13,8 @@ use crate::request::{MOST_OCTETS, lane_and_words, request_at};
 use mdbox_base::{NoMemory, Octets, Request, Source};
 use std::alloc::Global;
 
-/// How many octets a line has at most, with its LF: the longest line of a request has some 600.
-const LINE_LIMIT: usize = 1_025;
+/// How many octets a line has at most, with its LF: the longest line of a request, one of keywords, has some 2,400.
+const LINE_LIMIT: usize = 4_097;
 
 /// How many octets are asked of a source at once.
 const PIECE: usize = 65_536;
@@ -28,7 +28,7 @@ pub struct Extent {
 }
 
 /// Takes the request in front of a source, with its lane, and no octet more; and says how far it goes. None at the source's end.
-/// A line of more than 1,024 octets is no request. The source is asked for one octet of a line after another, and waits for none that
+/// A line of more than 4,096 octets is no request. The source is asked for one octet of a line after another, and waits for none that
 /// follows the request.
 pub fn take_request<I: Source>(
     alloc: Global,
@@ -66,12 +66,12 @@ fn extent_of(text: &[u8]) -> Extent
     }
 }
 
-/// Takes a line with its LF. At the source's end, and where no LF stands among the first 1,025 octets, what was taken is no line.
+/// Takes a line with its LF. At the source's end, and where no LF stands among the first 4,097 octets, what was taken is no line.
 fn take_line<I: Source>(source: &mut I, text: &mut Octets) -> Result<(), TakeError>
     requires { text.old ≡ [] }
     ensures taken { OnOk result (Taken (I.left source.old) text.new (I.left source.new)) }
     ensures line { OnOk result (IsLineTaken text.new (I.left source.new)) }
-    ensures short { OnOk result (length text.new ≤ 1025) }
+    ensures short { OnOk result (length text.new ≤ 4097) }
     ensures quiet { OnOk result (I.faults source.new ≡ I.faults source.old) }
     ensures unfailed { IfErr result (IsTakeError (I.faults source.old) (I.faults source.new)) }
     ensures counted { I.faults source.old ≤ I.faults source.new }

@@ -1,5 +1,5 @@
 // A script, written.
-ghost use Rattle.std.specs.Prelude.{◌≡◌, ◌++◌, ◌∷◌, OnOk, OnErr};
+ghost use Rattle.std.specs.Prelude.{◌≡◌, ◌++◌, ◌∷◌, length, OnOk, OnErr};
 ghost use Rattle.mdbox_base.specs.Numbers.{decimal_text};
 ghost use Rattle.script_text.specs.Script.{IsForLanes, script_text, request_text, request_words, message_text, name_word, spaced};
 
@@ -62,6 +62,11 @@ fn push_words(text: &mut Octets, asked: &Request) -> Result<(), NoMemory>
             push_number(text, uid.0 as u64)?;
             push_number(text, flags.bits() as u64)
         }
+        Request::Keywords { name, uid, words } => {
+            push_name(text, b"keywords ", name)?;
+            push_number(text, uid.0 as u64)?;
+            push_keywords(text, words.as_slice())
+        }
         Request::Copy { name, uid, target } => push_names(text, b"copy ", name, *uid, target),
         Request::Move { name, uid, target } => push_names(text, b"move ", name, *uid, target),
         Request::Expunge { name, uid } => {
@@ -108,6 +113,18 @@ fn push_number(text: &mut Octets, number: u64) -> Result<(), NoMemory>
 {
     text.push_all(b" ")?;
     push_decimal(text, number)
+}
+
+/// Appends a space and how many keywords there are, and each after one space.
+fn push_keywords(text: &mut Octets, words: &[Octets]) -> Result<(), NoMemory>
+    ensures { OnOk result (text.new ≡ text.old ++ 32 ∷ spaced (decimal_text (length words.now) ∷ words.now)) }
+{
+    push_number(text, words.len() as u64)?;
+    for word in words {
+        text.push_all(b" ")?;
+        text.push_all(word.as_slice())?;
+    }
+    Ok(())
 }
 
 /// Appends words and, behind them, a name, a UID and another name.

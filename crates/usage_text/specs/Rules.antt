@@ -6,13 +6,14 @@ use Rattle.usage_text.specs.Blames.{FitsRule, HasVerb, word_at}
 use Rattle.usage_text.specs.declared.rule.Rule.{Rule}
 use Rattle.usage_text.specs.declared.rule.Rule.TheVariants as rule
 
--- the rules of the words after the verb
+-- the rules of the words after the verb, but for keywords
 abbrev pub rules_of : Command → List Rule
 rules_of (command.Init id) = rule.Id ∷ []
 rules_of (command.Deliver name) = rule.Name ∷ []
 rules_of (command.List name) = rule.Name ∷ []
 rules_of (command.Fetch name uid) = rule.Name ∷ rule.Uid ∷ []
 rules_of (command.Flag name uid flags) = rule.Name ∷ rule.Uid ∷ rule.Flags ∷ []
+rules_of (command.Keywords name uid words) = rule.Name ∷ rule.Uid ∷ []
 rules_of (command.Expunge name uid) = rule.Name ∷ rule.Uid ∷ []
 rules_of (command.Copy name uid target) = rule.Name ∷ rule.Uid ∷ rule.Name ∷ []
 rules_of (command.Move name uid target) = rule.Name ∷ rule.Uid ∷ rule.Name ∷ []

@@ -1,7 +1,7 @@
 // The line that tells what is wrong with words.
 ghost use Rattle.std.specs.Prelude.{◌≡◌, ◌++◌, ◌∷◌, [], length, take, map, string_bytes, codes, if◌then◌else◌, nat_lt, IfOk, OnOk};
 ghost use Rattle.std.specs.Char.Escape.{escape_ascii};
-ghost use Rattle.usage_text.specs.BlameText.{blame_text, count_text, counts_text, word_text, quoted_word, rule_name, rule_text};
+ghost use Rattle.usage_text.specs.BlameText.{blame_text, count_text, counts_text, fewer_text, least_text, word_text, quoted_word, rule_name, rule_text};
 ghost use Rattle.usage_text.specs.Blames.{BlameGives};
 
 use crate::blame::Blame;
@@ -28,6 +28,10 @@ pub fn blame_line(alloc: Global, words: &[String], blame: Blame) -> Result<Octet
         Blame::Count(count) => {
             push_count(&mut line, words[0].as_bytes(), count, words.len() - 1)?;
         }
+        Blame::Fewer(count) => {
+            push_fewer(&mut line, words[0].as_bytes(), count, words.len() - 1)?;
+        }
+        Blame::Keywords => line.push_all(b"more than 32 different keywords")?,
         Blame::Word(place, rule) => push_word(&mut line, words[place].as_bytes(), rule)?,
     }
     line.push_all(b"\n")?;
@@ -47,6 +51,25 @@ fn push_counts(line: &mut Octets, count: usize, given: usize) -> Result<(), NoMe
     ensures { OnOk result (line.new ≡ line.old ++ counts_text count given) }
 {
     line.push_all(b" takes ")?;
+    push_decimal(line, count as u64)?;
+    line.push_all(b" words after it, not ")?;
+    push_decimal(line, given as u64)?;
+    line.push_all(b"; mdbox --help names them")
+}
+
+/// Appends a verb, how many words there must be after it at least, and how many there are.
+fn push_fewer(line: &mut Octets, verb: &[u8], count: usize, given: usize) -> Result<(), NoMemory>
+    ensures { OnOk result (line.new ≡ line.old ++ fewer_text verb.now count given) }
+{
+    push_quoted(line, verb)?;
+    push_least(line, count, given)
+}
+
+/// Appends how many words there must be at least, and how many there are.
+fn push_least(line: &mut Octets, count: usize, given: usize) -> Result<(), NoMemory>
+    ensures { OnOk result (line.new ≡ line.old ++ least_text count given) }
+{
+    line.push_all(b" takes at least ")?;
     push_decimal(line, count as u64)?;
     line.push_all(b" words after it, not ")?;
     push_decimal(line, given as u64)?;
@@ -76,6 +99,10 @@ fn told_of(rule: Rule) -> (&'static [u8], &'static [u8])
         Rule::Flags => (
             b"BITS",
             b"0 to 31, no leading zero: the sum of 1 answered, 2 flagged, 4 deleted, 8 seen, 16 draft",
+        ),
+        Rule::Keyword => (
+            b"KEYWORD",
+            b"1 to 64 printing octets of ASCII, no blank, none of ( ) { % * \" \\ ]",
         ),
         Rule::Lanes => (b"LANES", b"1 to 64, no leading zero"),
         Rule::Requests => (b"COUNT", b"1 to 100000, no leading zero"),

@@ -5,7 +5,7 @@ ghost use Rattle.mdbox_base.specs.Words.{IsOctets, IsName};
 ghost use Rattle.usage_text.specs.Blames.{FitsRule, IsDecimal};
 ghost use Rattle.usage_text.specs.declared.rule.Rule.TheVariants as rule;
 
-use mdbox_base::{name_of, read_decimal, read_lower_hex};
+use mdbox_base::{is_keyword, name_of, read_decimal, read_lower_hex};
 use std::alloc::Global;
 
 /// What a word of a command may be.
@@ -17,6 +17,7 @@ pub enum Rule {
     Name,
     Uid,
     Flags,
+    Keyword,
     /// How many lanes a script has.
     Lanes,
     /// How many requests an exercise has.
@@ -34,6 +35,7 @@ pub(crate) fn fits(alloc: Global, rule: Rule, word: &[u8]) -> bool
         Rule::Name => is_name(alloc, word),
         Rule::Uid => is_decimal(word, 1, 4_294_967_294),
         Rule::Flags => is_decimal(word, 0, 31),
+        Rule::Keyword => is_keyword(word),
         Rule::Lanes => is_decimal(word, 1, 64),
         Rule::Requests => is_decimal(word, 1, 100_000),
         Rule::Number => is_decimal(word, 0, u64::MAX),

@@ -7,7 +7,7 @@ ghost use Rattle.usage_text.specs.Rules.{AreRulesOf, FirstUnfit, FitTo};
 use crate::rule::{Rule, fits};
 use std::alloc::Global;
 
-/// The rules of the words after a verb.
+/// The rules of the words after a verb, but for keywords.
 pub(crate) fn rules_of(verb: &str) -> Option<&'static [Rule]>
     ensures some { IfSome result (λ rules. AreRulesOf verb.now rules.now) }
     ensures none { IfNone result ((command : Command) → HasVerb verb.now command → ⊥) }
@@ -18,6 +18,7 @@ pub(crate) fn rules_of(verb: &str) -> Option<&'static [Rule]>
         "list" => Some(&[Rule::Name]),
         "fetch" => Some(&[Rule::Name, Rule::Uid]),
         "flag" => Some(&[Rule::Name, Rule::Uid, Rule::Flags]),
+        "keywords" => Some(&[Rule::Name, Rule::Uid]),
         "boxes" => Some(&[]),
         "counts" => Some(&[]),
         "purge" => Some(&[]),

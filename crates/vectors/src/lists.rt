@@ -1,7 +1,8 @@
 // The steps of the list machine, one after another.
 use crate::line_text::{push_digits, push_line};
 use mdbox_base::{
-    BoxNo, Flags, Guid, ListRow, Name, NoMemory, Octets, Refusal, Reply, Uid, flags_of, name_of,
+    BoxNo, Flags, Guid, ListRow, Name, NoMemory, Octets, Refusal, Reply, Seq, Uid, Words, flags_of,
+    name_of, words_of,
 };
 use plain_lists::{PlainLists, PlainMailbox, PlainMessage};
 use std::alloc::Global;
@@ -25,6 +26,7 @@ pub fn with_message(alloc: Global, octets: &[u8]) -> Result<Option<PlainLists>, 
         time: 1_694_498_816,
         guid: GUID,
         octets: Octets::of(Vec::from_slice(alloc, octets)?),
+        words: Words::none(alloc),
     };
     let inbox = PlainMailbox {
         number: BoxNo(1),
@@ -109,6 +111,10 @@ fn of_message(
             };
             Ok(Some(lists.flag(name, Uid(uid), flags)))
         }
+        "keywords" => match words_in(alloc, line)? {
+            Some(words) => Ok(Some(lists.keywords(name, Uid(uid), words))),
+            None => Ok(None),
+        },
         _ => to_target(alloc, lists, word, name, Uid(uid), line),
     }
 }
@@ -119,6 +125,17 @@ fn flags_in(line: &str) -> Option<Flags> {
         Ok(bits) => flags_of(bits),
         Err(_) => None,
     }
+}
+
+/// The keywords of a line, which may be empty. None if its words aren't keywords.
+fn words_in(alloc: Global, line: &str) -> Result<Option<Words>, NoMemory> {
+    let mut texts = Seq::empty(alloc);
+    if !line.is_empty() {
+        for word in line.split(' ') {
+            texts.push(Octets::of(Vec::from_slice(alloc, word.as_bytes())?))?;
+        }
+    }
+    words_of(alloc, &texts)
 }
 
 /// A step that names a target too.
@@ -170,6 +187,12 @@ fn push_row(alloc: Global, out: &mut String, row: &ListRow) -> Result<(), NoMemo
     let (size, time) = (row.size, row.time);
     let mut text = format!(in alloc; "{uid} {flags} {size} {time} ")?;
     push_digits(&mut text, &row.guid.0)?;
+    for word in row.words.as_slice() {
+        text.push_str(" ")?;
+        for octet in word.as_slice() {
+            text.push(char::from(*octet))?;
+        }
+    }
     push_line(out, text.as_str())
 }
 

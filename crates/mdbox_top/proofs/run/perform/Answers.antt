@@ -17,6 +17,9 @@ returns-in-Fetch-clause-rests g c = rw c.in-Fetch.is c.serve-in-Fetch.ensures.re
 pub returns-in-Expunge-clause-rests : goal.returns-in-Expunge-clause-rests
 returns-in-Expunge-clause-rests g c = rw c.in-Expunge.is c.serve-in-Expunge.ensures.rests
 
+pub returns-in-Keywords-clause-rests : goal.returns-in-Keywords-clause-rests
+returns-in-Keywords-clause-rests g c = rw c.in-Keywords.is c.serve-in-Keywords.ensures.rests
+
 pub returns-in-Move-clause-rests : goal.returns-in-Move-clause-rests
 returns-in-Move-clause-rests g c = rw c.in-Move.is c.serve-in-Move.ensures.rests
 
@@ -83,6 +86,9 @@ returns-in-Purge-clause-uncalled g c = λ before e. absurd (request_ended _ _ _ 
 
 pub returns-in-Expunge-clause-uncalled : goal.returns-in-Expunge-clause-uncalled
 returns-in-Expunge-clause-uncalled g c = λ before e. absurd (request_ended _ _ _ _ _ _ _ _ c.serve-in-Expunge.result.0 c.serve-in-Expunge.ensures.ends e)
+
+pub returns-in-Keywords-clause-uncalled : goal.returns-in-Keywords-clause-uncalled
+returns-in-Keywords-clause-uncalled g c = λ before e. absurd (request_ended _ _ _ _ _ _ _ _ c.serve-in-Keywords.result.0 c.serve-in-Keywords.ensures.ends e)
 
 pub returns-in-Copy-clause-uncalled : goal.returns-in-Copy-clause-uncalled
 returns-in-Copy-clause-uncalled g c = λ before e. absurd (request_ended _ _ _ _ _ _ _ _ c.serve-in-Copy.result.0 c.serve-in-Copy.ensures.ends e)

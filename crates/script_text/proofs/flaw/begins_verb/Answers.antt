@@ -1,6 +1,6 @@
 use Rattle.std.proofs.Common.{inl, inr, refl}
 use Rattle.std.proofs.lemmas.Bool.{cases_Bool}
-use Rattle.script_text.proofs.FlawLemmas.{copy_begins, counts_begins, delete_begins, deliver_begins, expunge_begins, fetch_begins, flag_begins, list_begins, make_begins, move_begins, none_begins, purge_begins, refused_by, rename_begins, resync_begins}
+use Rattle.script_text.proofs.FlawLemmas.{copy_begins, counts_begins, delete_begins, deliver_begins, expunge_begins, fetch_begins, flag_begins, keywords_begins, list_begins, make_begins, move_begins, none_begins, purge_begins, refused_by, rename_begins, resync_begins}
 use Rattle.script_text.proofs.flaw.begins_verb.Goals as goal
 
 pub returns-then-begins : goal.returns-then-begins
@@ -39,10 +39,13 @@ returns-then-begins-11 c = ((λ yes. counts_begins c.args.text.now (c.begins-11.
 pub returns-then-begins-12 : goal.returns-then-begins-12
 returns-then-begins-12 c = ((λ yes. purge_begins c.args.text.now (c.begins-12.ensures.0 c.if-begins-12.true)), (λ verb. refl))
 
+pub returns-then-begins-13 : goal.returns-then-begins-13
+returns-then-begins-13 c = ((λ yes. keywords_begins c.args.text.now (c.begins-13.ensures.0 c.if-begins-13.true)), (λ verb. refl))
+
 pub returns : goal.returns
 returns c = (
-  (λ yes. resync_begins c.args.text.now (c.begins-13.ensures.0 yes)),
-  (λ verb. elim (cases_Bool c.begins-13.result) [
+  (λ yes. resync_begins c.args.text.now (c.begins-14.ensures.0 yes)),
+  (λ verb. elim (cases_Bool c.begins-14.result) [
     | inl is ↦ is
     | inr isnt ↦ absurd (none_begins c.args.text.now
         (refused_by c.begins.result c.begins.ensures c.if-begins.false)
@@ -57,6 +60,7 @@ returns c = (
         (refused_by c.begins-10.result c.begins-10.ensures c.if-begins-10.false)
         (refused_by c.begins-11.result c.begins-11.ensures c.if-begins-11.false)
         (refused_by c.begins-12.result c.begins-12.ensures c.if-begins-12.false)
-        (refused_by c.begins-13.result c.begins-13.ensures isnt) verb)
+        (refused_by c.begins-13.result c.begins-13.ensures c.if-begins-13.false)
+        (refused_by c.begins-14.result c.begins-14.ensures isnt) verb)
   ]),
 )
