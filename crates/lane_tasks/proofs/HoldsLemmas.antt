@@ -1,5 +1,5 @@
 -- The instances that tasks claim to hold are those that their requests' events found, placed or pinned.
-use Rattle.lane_tasks.proofs.Common.{◌≡◌, ◌+◌, ◌==◌, ℕ, Bool, true, false, cond, List, [], ◌∷◌, ◌++◌, map, Option, Some, None, refl, sym, ◌∙◌, ap, subst, arith, inl, inr, ◌⊎◌, All, flat_map, is_none, list_any, option_map_or, All-head, All-nil, All-cons, All-tail, list_any-append, sum_by-cons}
+use Rattle.lane_tasks.proofs.Common.{◌≡◌, ◌+◌, ◌==◌, ℕ, Bool, true, false, cond, List, [], ◌∷◌, ◌++◌, Option, Some, None, refl, sym, ◌∙◌, ap, arith, inl, inr, ◌⊎◌, All, flat_map, is_none, list_any, option_map_or, All-head, All-nil, All-cons, All-tail, list_any-append, sum_by-cons}
 use Rattle.lane_tasks.proofs.Common.{History, InstRow, Uid, Refusal, Reply, Request, MapMeaning, EventPart, Run, RunEvent, own_events, StoreValue, Held, one_if, fetch_claims, IsAtFetch, FetchStage, MakeStage, make_claims, IsAt, save_claims, IsAtSave, IsReadyToDeliver, SaveValue, SaveStage}
 use Rattle.lane_tasks.proofs.Common.{purge_claims, IsReadyTask, HasNamedFound, StandsTask, claims_at, Task}
 use Rattle.std.proofs.Common.{◌≤◌, ◌&&◌, ◌||◌}
@@ -10,7 +10,7 @@ use Rattle.std.proofs.lemmas.Slice.Eq.{bytes_eq-Decides}
 use Rattle.attach_detach.specs.declared.message.Detached.{Detached}
 use Rattle.mdbox_base.specs.declared.ids.InstId.{InstId}
 use Rattle.mdbox_base.specs.declared.requests.Request.TheVariants as request
-use Rattle.model_meaning.specs.MapMeaning.{MapRecord, named_instances, record_at}
+use Rattle.model_meaning.specs.MapMeaning.{MapRecord, record_at}
 use Rattle.list_machine.specs.Run.{Pin, is_unpinning, is_unpinning_part}
 use Rattle.journal.specs.Found.{is_same_instance}
 use Rattle.map_index.specs.Shown.{is_instance_named}
@@ -21,7 +21,7 @@ use Rattle.store_core.specs.Keeping.{holds_of}
 use Rattle.store_core.specs.Knows.{knows_instance}
 use Rattle.store_core.specs.StoreInstances.{IsKnownRow}
 use Rattle.mail_fetch.specs.Claims.{IsReadyToFetch}
-use Rattle.mail_fetch.specs.Stages.{HasPinned, HasReadAllBut, ReadPiece, UnpinsNext}
+use Rattle.mail_fetch.specs.Stages.{HasPinned, ReadPiece, UnpinsNext}
 use Rattle.mail_fetch.specs.declared.parts.StoredAt.{StoredAt}
 use Rattle.mail_fetch.specs.declared.task.FetchStage.TheVariants as fetch_stage
 use Rattle.mail_ops.specs.declared.making.MakeStage.TheVariants as make_stage

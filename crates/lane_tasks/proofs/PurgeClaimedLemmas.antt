@@ -1,6 +1,6 @@
 -- A storage file that a purge claims to have taken, or drew as a target, is one that its events took and haven't given back.
-use Rattle.lane_tasks.proofs.Common.{◌≡◌, ◌==◌, ◌<◌, ◌+◌, ℕ, suc, Bool, true, false, cond, List, [], ◌∷◌, map, Option, Some, None, refl, sym, ◌∙◌, ap, subst, arith, inl, inr, ◌≤◌, ◌≢◌, ◌⊎◌, ◌||◌, ◌&&◌, All, drop, flat_map, is_none, list_any, option_map_or, common_steps, All-cons, All-head, All-nil}
-use Rattle.lane_tasks.proofs.Common.{All-tail, list_any-append, sum_by-cons, History, FileNo, Refusal, Reply, Run, RunEvent, TakenFile, is_one_of, own_events, is_done, gave_back, is_storing, took_file, StoreValue, Emptied, Taken, claims_of_sources, claims_of_switched, claims_of_target, purge_claims}
+use Rattle.lane_tasks.proofs.Common.{◌≡◌, ◌==◌, ◌<◌, ◌+◌, ℕ, suc, Bool, true, false, List, [], ◌∷◌, map, Option, Some, None, refl, sym, ◌∙◌, ap, subst, arith, inl, inr, ◌≤◌, ◌≢◌, ◌⊎◌, ◌||◌, ◌&&◌, All, drop, flat_map, is_none, list_any, option_map_or, common_steps, All-cons, All-head, All-nil}
+use Rattle.lane_tasks.proofs.Common.{All-tail, list_any-append, sum_by-cons, FileNo, Refusal, Reply, Run, RunEvent, TakenFile, is_one_of, own_events, is_done, gave_back, is_storing, took_file, StoreValue, Emptied, Taken, claims_of_sources, claims_of_switched, claims_of_target, purge_claims}
 use Rattle.lane_tasks.proofs.Common.{sources_left, PurgeValue, IsAtPurgeStage, PurgeStage, Source}
 use Rattle.std.specs.Prelude.{◌++◌, AllPairs, Contains}
 use Rattle.std.specs.Option.{option_or}

@@ -1,11 +1,11 @@
 -- The storage files that tasks claim to have taken are those that their requests' events took and haven't given back.
-use Rattle.lane_tasks.proofs.Common.{◌≡◌, ◌==◌, ℕ, Bool, true, false, List, [], ◌∷◌, ◌++◌, Option, None, refl, sym, ◌∙◌, ap, subst, arith, inl, inr, ◌⊎◌, flat_map, is_none, list_any, eq-eqb, list_any-append, History, InstRow, Refusal, Reply, Request, EventPart, First, Run, RunEvent, TakenFile}
+use Rattle.lane_tasks.proofs.Common.{◌≡◌, ◌==◌, ℕ, Bool, true, false, List, [], ◌∷◌, ◌++◌, Option, refl, sym, ◌∙◌, ap, subst, arith, inl, inr, ◌⊎◌, flat_map, is_none, list_any, eq-eqb, list_any-append, History, InstRow, Reply, Request, Run, RunEvent, TakenFile}
 use Rattle.lane_tasks.proofs.Common.{is_one_of, own_events, is_done, gave_back, is_storing, took_file, StoreValue, Emptied, Taken, one_if, fetch_claims, FetchStage, make_claims, MakeStage, save_claims, IsAtSave, SaveValue, SaveStage, StandsTask, claims_at, Task}
 use Rattle.std.proofs.Common.{◌≤◌, ◌&&◌, ◌||◌}
 use Rattle.std.specs.List.{AllByRecursion}
 use Rattle.std.proofs.lemmas.Bool.{eqb-true}
 use Rattle.mdbox_base.specs.declared.requests.Request.TheVariants as request
-use Rattle.list_machine.specs.Run.{Compares, PlacesInstance, PlacesMessage, TakesFile}
+use Rattle.list_machine.specs.Run.{Compares, PlacesInstance}
 use Rattle.mail_fetch.specs.declared.task.FetchStage.TheVariants as fetch_stage
 use Rattle.mail_ops.specs.declared.making.MakeStage.TheVariants as make_stage
 use Rattle.mail_save.specs.SaveStages.{AreAttachedSoFar, HasAttached, TookFile}
