@@ -1,8 +1,7 @@
 -- The files that the events of a purge took, and the targets that they drew, are apart.
-use Rattle.lane_tasks.proofs.Common.{◌≡◌, ◌==◌, ◌<◌, ◌+◌, ℕ, suc, Bool, true, false, List, [], ◌∷◌, map, Option, Some, None, refl, sym, ◌∙◌, ap, subst, arith, inl, inr, ◌≤◌, ◌≢◌, ◌⊎◌, All, flat_map, list_any, eq-eqb, ne_eqb, All-cons, All-head, All-nil, All-tail, Refusal, Lists, MapMeaning}
+use Rattle.lane_tasks.proofs.Common.{◌≡◌, ◌==◌, ◌<◌, ◌+◌, ℕ, Bool, true, false, List, [], ◌∷◌, map, Option, Some, None, refl, sym, ◌∙◌, ap, subst, arith, inl, inr, ◌≤◌, ◌≢◌, ◌⊎◌, All, flat_map, list_any, eq-eqb, ne_eqb, All-cons, All-head, All-nil, All-tail, Refusal, Lists, MapMeaning}
 use Rattle.lane_tasks.proofs.Common.{EventPart, First, Run, RunEvent, TakenFile, and_then, own_events, Around, is_done, is_storing, own_more, own_other}
-use Rattle.std.proofs.Common.{zero}
-use Rattle.std.specs.Prelude.{◌++◌, AllPairs, find, if◌then◌else◌, is_some, nat_lt, not}
+use Rattle.std.specs.Prelude.{◌++◌, AllPairs, if◌then◌else◌, is_some, nat_lt, not}
 use Rattle.std.specs.Option.{option_map, option_or}
 use Rattle.std.proofs.lemmas.Grind.{flat_map-append}
 use Rattle.std.proofs.lemmas.List.{append-nil}
@@ -10,8 +9,8 @@ use Rattle.std.proofs.lemmas.List.Elements.{All-push, All-weaker}
 use Rattle.std.proofs.lemmas.List.Kept.{AllPairs-cons}
 use Rattle.mdbox_base.specs.declared.requests.Request.TheVariants as request
 use Rattle.model_octets.proofs.PairLemmas.{found_among, pairs_nil}
-use Rattle.list_machine.specs.Run.{Compares, CopiesMessage, GivesBack, Last, MakesTarget, PlacesInstance, PlacesMessage, ReadsFile, ReadsPiece, RemovesFile, RemovesInstance, SecondHalf, StartsOver, StoresRecord, Switches, TakesFile, Unpins, drawn_of, first_in, is_copied_from, map_of}
-use Rattle.journal.specs.Events.{DidPurge, IsEvent, TellsFiles, behind_event, behind_purge, copies_left, doomed_last, file_to_remove, next_part, next_taken, purge_copies, purge_goes_on, targets_of, was_pinned}
+use Rattle.list_machine.specs.Run.{CopiesMessage, Last, MakesTarget, RemovesFile, RemovesInstance, StoresRecord, Switches, drawn_of, first_in, is_copied_from, map_of}
+use Rattle.journal.specs.Events.{DidPurge, IsEvent, TellsFiles, behind_event, behind_purge, doomed_last, file_to_remove, next_part, next_taken, purge_copies, purge_goes_on, targets_of, was_pinned}
 use Rattle.journal.specs.Found.{AgreesWithRun, FindsFiles, IsFreeFile, PurgeFinds, has_looked}
 use Rattle.lane_tasks.specs.Tasks.{DoomsWithin, IsTakenWithin, TookApart}
 

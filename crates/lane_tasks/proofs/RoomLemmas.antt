@@ -66,21 +66,14 @@ purge_holds (purge_stage.Removing work) id = let none = switched_holds_none (sou
 purge_holds purge_stage.Instances id = refl
 
 pub task_claims_few : {D : Type 0} → (t : Task) (store : StoreValue D) (history : Option History) → IsReadyTask t store history → ClaimsFew (claims_at t)
-task_claims_few (task.Ops t) store history ready = none_few (claims_at (task.Ops t)) (λ file. refl) (λ id. refl)
-task_claims_few (task.Counts t) store history ready = none_few (claims_at (task.Counts t)) (λ file. refl) (λ id. refl)
 task_claims_few (task.Make t) store history ready = none_few (make_claims t.stage) (make_pins t.stage) (make_holds t.stage)
-task_claims_few (task.Copy t) store history ready = none_few (claims_at (task.Copy t)) (λ file. refl) (λ id. refl)
-task_claims_few (task.Move t) store history ready = none_few (claims_at (task.Move t)) (λ file. refl) (λ id. refl)
-task_claims_few (task.Expunge t) store history ready = none_few (claims_at (task.Expunge t)) (λ file. refl) (λ id. refl)
-task_claims_few (task.Resync t) store history ready = none_few (claims_at (task.Resync t)) (λ file. refl) (λ id. refl)
-task_claims_few (task.Delete t) store history ready = none_few (claims_at (task.Delete t)) (λ file. refl) (λ id. refl)
-task_claims_few (task.Rename t) store history ready = none_few (claims_at (task.Rename t)) (λ file. refl) (λ id. refl)
 task_claims_few (task.Purge t) store history ready = none_few (purge_claims t.stage) (purge_pins t.stage) (purge_holds t.stage)
 task_claims_few (task.Fetch t) store history ready = record { pinned = claims_one_pin t.stage; held = λ id. claims_few t.stage store id ready }
 task_claims_few (task.Deliver t) store history ready = record {
   pinned = λ file. omega arith;
   held = λ id. let few = holds_are_few t.stage t.name t.time t.size ready.0 store history ready.1 id in omega (arith, few);
 }
+task_claims_few t store history ready = none_few (claims_at t) (λ file. refl) (λ id. refl)
 
 -- ---- all of them
 
@@ -133,13 +126,7 @@ room_free size file store history s order found =
 
 stage_free : {D : Type 0} → (now : SaveStage) (file : ℕ) (store : StoreValue D) (history : Option History) → IsStore history store → AreFilesInOrder store.files → room_at now store ≡ Some file → IsFreeToTake file store
 stage_free (save_stage.Taking parts) file store history s order found = room_free (length parts.laid.region) file store history s order found
-stage_free (save_stage.First prepared) file store history s order found = absurd (no_room file None refl found)
-stage_free (save_stage.Attaching parts attaching) file store history s order found = absurd (no_room file None refl found)
-stage_free (save_stage.Placing parts taken) file store history s order found = absurd (no_room file None refl found)
-stage_free (save_stage.Storing at rows room) file store history s order found = absurd (no_room file None refl found)
-stage_free (save_stage.Adding added room) file store history s order found = absurd (no_room file None refl found)
-stage_free (save_stage.GivingBack uid why room) file store history s order found = absurd (no_room file None refl found)
-stage_free save_stage.Ended file store history s order found = absurd (no_room file None refl found)
+stage_free now file store history s order found = absurd (no_room file None refl found)
 
 delivery_free : {D : Type 0} → (t : SaveValue) (asked : Request) (store : StoreValue D) (history : Option History) (around : Around) (file : ℕ) → IsStore history store → AreFilesInOrder store.files → around.room ≡ None → (found_saving t asked store around).room ≡ Some file → IsFreeToTake file store
 delivery_free t (request.Deliver name time octets) store history around file s order none found = stage_free t.stage file store history s order found
@@ -147,30 +134,10 @@ delivery_free t asked store history around file s order none found = absurd (no_
 
 pub found_free : {D : Type 0} → (t : Task) (asked : Request) (store : StoreValue D) (history : Option History) (around : Around) (file : ℕ) → IsStore history store → AreFilesInOrder store.files → around.room ≡ None → (around_at t asked store around).room ≡ Some file → IsFreeToTake file store
 found_free (task.Deliver t) asked store history around file s order none found = delivery_free t asked store history around file s order none found
-found_free (task.Ops t) asked store history around file s order none found = absurd (no_room file around.room none found)
-found_free (task.Counts t) asked store history around file s order none found = absurd (no_room file around.room none found)
-found_free (task.Make t) asked store history around file s order none found = absurd (no_room file around.room none found)
-found_free (task.Copy t) asked store history around file s order none found = absurd (no_room file around.room none found)
-found_free (task.Move t) asked store history around file s order none found = absurd (no_room file around.room none found)
-found_free (task.Expunge t) asked store history around file s order none found = absurd (no_room file around.room none found)
-found_free (task.Purge t) asked store history around file s order none found = absurd (no_room file around.room none found)
-found_free (task.Resync t) asked store history around file s order none found = absurd (no_room file around.room none found)
-found_free (task.Delete t) asked store history around file s order none found = absurd (no_room file around.room none found)
-found_free (task.Rename t) asked store history around file s order none found = absurd (no_room file around.room none found)
-found_free (task.Fetch t) asked store history around file s order none found = absurd (no_room file around.room none found)
+found_free t asked store history around file s order none found = absurd (no_room file around.room none found)
 
 -- ---- what files read
 
 pub safe_answered : {D : Type 0} → (t : Task) (lists : Lists) (store : StoreValue D) (history : Option History) → IsStore history store → store.stopped ≡ false → ReadsSafe lists history → CanAnswer t lists store history
 safe_answered (task.Fetch t) lists store history is runs safe = safe_fetched t.stage t.name t.uid store history lists is runs safe
-safe_answered (task.Ops t) lists store history is runs safe = tt
-safe_answered (task.Counts t) lists store history is runs safe = tt
-safe_answered (task.Make t) lists store history is runs safe = tt
-safe_answered (task.Copy t) lists store history is runs safe = tt
-safe_answered (task.Move t) lists store history is runs safe = tt
-safe_answered (task.Expunge t) lists store history is runs safe = tt
-safe_answered (task.Purge t) lists store history is runs safe = tt
-safe_answered (task.Resync t) lists store history is runs safe = tt
-safe_answered (task.Delete t) lists store history is runs safe = tt
-safe_answered (task.Rename t) lists store history is runs safe = tt
-safe_answered (task.Deliver t) lists store history is runs safe = tt
+safe_answered t lists store history is runs safe = tt

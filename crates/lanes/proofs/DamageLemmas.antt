@@ -1,5 +1,5 @@
 -- No message that a script fetches is damaged, where the fetch finds the messages of the lists from which it is served.
-use Rattle.std.proofs.Common.{◌≡◌, ◌==◌, ◌+◌, ℕ, Bool, true, false, List, [], ◌∷◌, ◌++◌, map, slice_set, Option, Some, None, refl, sym, ◌∙◌, ap, subst, arith, inl, inr}
+use Rattle.std.proofs.Common.{◌≡◌, ◌==◌, ℕ, Bool, true, false, List, [], ◌∷◌, ◌++◌, slice_set, Option, Some, None, refl, sym, ◌∙◌, ap, subst, arith, inl, inr}
 use Rattle.std.specs.Prelude.{◌≢◌, ◌⊎◌, All, slice_get}
 use Rattle.std.specs.Option.{IfSome, option_or}
 use Rattle.std.proofs.lemmas.Grind.{common_steps}
@@ -21,7 +21,7 @@ use Rattle.journal.proofs.OwnEventLemmas.{own_more, own_other}
 use Rattle.serving.specs.Lanes.{replies_behind}
 use Rattle.serving.proofs.LaneLemmas.{get_set_other, get_set_same, nat_cases, one_some}
 use Rattle.store_core.specs.Value.{StoreValue}
-use Rattle.mail_fetch.specs.Stages.{HasPinned, HasReadAllBut, IsAtFetch, IsTrueReply, ReadPiece, UnpinsNext}
+use Rattle.mail_fetch.specs.Stages.{HasReadAllBut, IsAtFetch, IsTrueReply, ReadPiece, UnpinsNext}
 use Rattle.mail_fetch.specs.declared.parts.StoredAt.{StoredAt}
 use Rattle.mail_fetch.specs.declared.task.FetchStage.{FetchStage}
 use Rattle.mail_fetch.specs.declared.task.FetchStage.TheVariants as stage

@@ -1,12 +1,11 @@
 -- The entries of a journal as steps are added to it, and how many there are.
-use Rattle.std.proofs.Common.{◌≡◌, ◌<◌, ◌≤◌, ◌+◌, ◌-◌, ◌*◌, ◌==◌, ℕ, zero, suc, Bool, true, false, cond, List, [], ◌∷◌, ◌++◌, map, Option, Some, None, refl, sym, ◌∙◌, ap, subst, arith}
-use Rattle.std.specs.Prelude.{◌≢◌, All, length, slice_get, filter}
+use Rattle.std.proofs.Common.{◌≡◌, ◌<◌, ◌≤◌, ◌+◌, ◌*◌, ◌==◌, ℕ, zero, suc, Bool, true, false, cond, List, [], ◌∷◌, ◌++◌, map, Option, Some, refl, sym, ◌∙◌, ap, subst, arith}
+use Rattle.std.specs.Prelude.{All, length, slice_get}
 use Rattle.std.proofs.lemmas.Grind.{common_steps}
 use Rattle.std.proofs.lemmas.List.Elements.{All-cons, All-head, All-nil, All-tail}
-use Rattle.disk_model.specs.Disk.{History, IsTold, IsMoment, told_calls}
-use Rattle.mdbox_base.specs.declared.script.Half.{Half}
+use Rattle.disk_model.specs.Disk.{History, IsTold}
 use Rattle.mdbox_base.specs.declared.script.JournalEntry.{JournalEntry}
-use Rattle.journal.specs.Journal.{AreEntriesOf, AreSteps, IsFirstPart, JournalStep, Requests, StandInOrder, halves_of, left_by, moment_of, steps_of}
+use Rattle.journal.specs.Journal.{AreEntriesOf, AreSteps, IsFirstPart, JournalStep, Requests, StandInOrder, halves_of, moment_of, steps_of}
 use Rattle.list_machine.specs.Run.{Run, RunEvent, and_then}
 use Rattle.model_lists.specs.Lists.{Lists}
 use Rattle.mdbox_base.specs.declared.requests.Request.{Request}
@@ -16,7 +15,7 @@ use Rattle.std.proofs.lemmas.List.{length-append, length-map}
 use Rattle.std.proofs.lemmas.Option.{slice_get_within}
 use Rattle.journal.proofs.JournalLemmas.{get_more}
 use Rattle.journal.proofs.ReachedLemmas.{get_last, within_some}
-use Rattle.serving.proofs.ServingLemmas.{all_at, some_at}
+use Rattle.serving.proofs.ServingLemmas.{some_at}
 use Rattle.lanes.specs.Worlds.{AreEntriesAt, IsEntryAt}
 
 -- ---- entries

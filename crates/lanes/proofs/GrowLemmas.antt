@@ -1,7 +1,6 @@
 -- A script that lanes serve, with a request more.
-use Rattle.std.proofs.Common.{◌≡◌, ◌<◌, ◌≤◌, ◌+◌, ◌-◌, ◌==◌, ℕ, zero, suc, Bool, true, false, cond, List, [], ◌∷◌, ◌++◌, map, slice_set, Option, Some, None, refl, sym, ◌∙◌, ap, subst, arith, inl, inr}
-use Rattle.std.specs.Prelude.{◌≢◌, ◌⊎◌, All, Contains, count_by, drop, filter, length, slice_get, slice_index_or}
-use Rattle.std.proofs.lemmas.Bool.{cond-false}
+use Rattle.std.proofs.Common.{◌≡◌, ◌<◌, ◌≤◌, ◌+◌, ◌==◌, ℕ, zero, suc, Bool, false, cond, List, [], ◌∷◌, ◌++◌, map, slice_set, Option, Some, None, refl, sym, ◌∙◌, ap, subst, arith, inl, inr}
+use Rattle.std.specs.Prelude.{◌≢◌, ◌⊎◌, All, Contains, count_by, drop, filter, length, slice_get}
 use Rattle.std.proofs.lemmas.Grind.{common_steps}
 use Rattle.std.proofs.lemmas.List.{length-append}
 use Rattle.std.proofs.lemmas.List.Elements.{All-cons, All-head, All-nil, All-tail, Contains-append_left, Contains-push}
@@ -12,15 +11,14 @@ use Rattle.mdbox_base.specs.declared.replies.Reply.{Reply}
 use Rattle.mdbox_base.specs.declared.replies.Reply.TheVariants as reply
 use Rattle.mdbox_base.specs.declared.requests.Request.{Request}
 use Rattle.model_lists.specs.Lists.{Lists}
-use Rattle.list_machine.specs.Run.{Run, RunEvent, before, own_events, reply_of, first_in}
-use Rattle.journal.specs.Events.{Around, DidPart, IsNextEvent, makes_step}
-use Rattle.journal.specs.Found.{AgreeWithRun, AgreesWithRun}
-use Rattle.journal.specs.Journal.{AreBroken, AreReplied, AreSteps, Broken, HasReply, HaveCauses, IsFirstPart, IsHalted, IsLegal, IsReplyOf, IsStep, JournalStep, LacksOrGoesOn, Requests, RoseBy, StandInOrder, WouldHaveBeen, as_if, halves_of, is_read_fault, left_by, steps_of}
-use Rattle.journal.specs.Makes.{AreNextEvents, AreReplies, AreTold, WouldDo, lists_before}
+use Rattle.list_machine.specs.Run.{Run, RunEvent, own_events, reply_of, first_in}
+use Rattle.journal.specs.Events.{Around}
+use Rattle.journal.specs.Journal.{AreReplied, AreSteps, Broken, HasReply, HaveCauses, IsFirstPart, IsHalted, IsLegal, JournalStep, LacksOrGoesOn, Requests, RoseBy, StandInOrder, WouldHaveBeen, as_if, halves_of, is_read_fault, left_by, steps_of}
+use Rattle.journal.specs.Makes.{AreNextEvents, AreReplies, AreTold, WouldDo}
 use Rattle.journal.proofs.JournalLemmas.{get_more}
-use Rattle.task_steps.specs.Serves.{Follows, IsTurn, Serves}
-use Rattle.task_steps.specs.Step.{HasNotBegun, Seen}
-use Rattle.serving.specs.Lanes.{AreBehind, IsInTurn, LaneAt, LaneStands, LaneValue, LanesAt, said_by}
+use Rattle.task_steps.specs.Serves.{Follows, IsTurn}
+use Rattle.task_steps.specs.Step.{Seen}
+use Rattle.serving.specs.Lanes.{AreBehind, IsInTurn, LaneAt, LaneStands, LaneValue, said_by}
 use Rattle.serving.specs.Serving.{IsServing}
 use Rattle.serving.proofs.LaneLemmas.{get_set_other, get_set_same, nat_cases, one_some}
 use Rattle.lanes.specs.Asked.{asked_behind}

@@ -1,7 +1,6 @@
 -- A world begins over a store that no task has claimed anything of.
-use Rattle.std.proofs.Common.{◌≡◌, ◌≤◌, ◌<◌, ◌+◌, ◌-◌, ◌^◌, ◌==◌, ℕ, zero, suc, Bool, true, false, cond, List, [], ◌∷◌, map, Option, Some, None, refl, sym, ◌∙◌, ap, subst, arith}
+use Rattle.std.proofs.Common.{◌≡◌, ◌≤◌, ◌<◌, ◌+◌, ◌^◌, ◌==◌, ℕ, zero, suc, Bool, true, false, cond, List, [], ◌∷◌, Option, Some, None, refl, sym, ◌∙◌, ap, subst, arith}
 use Rattle.std.specs.Prelude.{◌&&◌, All, is_some, length, option_map, replicate, slice_get}
-use Rattle.std.specs.Option.{option_map_or}
 use Rattle.std.proofs.lemmas.List.Elements.{All-head, All-nil, All-tail}
 use Rattle.std.proofs.lemmas.Option.{slice_get_within}
 use Rattle.disk_model.specs.Disk.{Faults, History}
@@ -14,10 +13,8 @@ use Rattle.task_steps.specs.Step.{Seen}
 use Rattle.mdbox_base.specs.declared.replies.Reply.{Reply}
 use Rattle.mdbox_base.specs.declared.script.JournalEntry.{JournalEntry}
 use Rattle.serving.specs.Turns.{LaneTurn}
-use Rattle.storage_files.specs.Files.{file_in, is_doomed_in}
-use Rattle.storage_files.specs.declared.file.MailFile.{MailFile}
 use Rattle.store_core.specs.Value.{StoreValue}
-use Rattle.task_claims.specs.Claims.{ClaimsNothing, HasNoTask, IsUnusedFile, one_if}
+use Rattle.task_claims.specs.Claims.{ClaimsNothing, HasNoTask, one_if}
 use Rattle.task_claims.proofs.OpenedLemmas.{none_claimed}
 use Rattle.serving.specs.Accounts.{IsReadyLane, lane_claims}
 use Rattle.serving.specs.Lanes.{LaneValue}

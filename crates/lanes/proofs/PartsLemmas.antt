@@ -2,7 +2,7 @@
 use Rattle.std.proofs.Common.{◌≡◌, ◌<◌, ◌≤◌, ◌+◌, ◌-◌, ◌==◌, ℕ, zero, suc, Bool, true, false, cond, List, [], ◌∷◌, ◌++◌, map, slice_set, Option, Some, None, refl, sym, ◌∙◌, ap, subst, arith, inl, inr}
 use Rattle.std.specs.Prelude.{◌≢◌, ◌⊎◌, All, length, replicate, slice_get}
 use Rattle.std.proofs.lemmas.Grind.{common_steps}
-use Rattle.std.proofs.lemmas.List.{append_assoc, append-nil, length-append, length-set, length-replicate}
+use Rattle.std.proofs.lemmas.List.{append_assoc, length-append, length-set, length-replicate}
 use Rattle.std.proofs.lemmas.List.Elements.{All-cons, All-head, All-nil, All-tail}
 use Rattle.std.proofs.lemmas.Option.{slice_get_within}
 use Rattle.attach_detach.specs.declared.message.Prepared.{Prepared}
@@ -13,7 +13,7 @@ use Rattle.serving.specs.Lanes.{queue_of}
 use Rattle.serving.proofs.LaneLemmas.{get_set_other, get_set_same, nat_cases, one_some}
 use Rattle.serving.proofs.ServingLemmas.{all_at}
 use Rattle.lane_tasks.specs.Tasks.{BeginsTask}
-use Rattle.lanes.specs.Going.{AreFreshRows, IsFreshRow, WaitsWithTask}
+use Rattle.lanes.specs.Going.{WaitsWithTask}
 use Rattle.lanes.specs.Rows.{LaneRow, queue_in}
 use Rattle.lanes.specs.Worlds.{AreFreshParts, AreGiven, AreOfLanes, ArePartsOf, AreRowsFrom, BeginsSome, HasItsMessage, IsRowFrom, empty_row, queued_in}
 use Rattle.lanes.specs.declared.lane.Queued.{Queued}

@@ -1,7 +1,7 @@
 -- Beside an event of another lane a task stands in the run with that event, which has come to the store; or the store is stopped, and the
 -- event did nothing to a file that the task removes.
 use Rattle.std.proofs.Common.{◌≡◌, ℕ, Bool, true, false, List, [], ◌∷◌, All, Option, Some, None, refl, sym, ◌∙◌, ap, subst, inl, inr}
-use Rattle.std.specs.Prelude.{◌≢◌, ◌⊎◌, ◌++◌, ◌==◌, ◌+◌, AllPairs, slice_get}
+use Rattle.std.specs.Prelude.{◌≢◌, ◌⊎◌, ◌++◌, ◌==◌, ◌+◌, AllPairs}
 use Rattle.std.specs.List.{list_any}
 use Rattle.std.specs.Option.{IfSome}
 use Rattle.std.proofs.lemmas.List.Elements.{All-cons, All-head, All-tail, All-nil, All-weaker}
@@ -18,7 +18,7 @@ use Rattle.list_machine.specs.Run.{Pin, Run, RunEvent, and_then, is_one_of}
 use Rattle.journal.specs.Events.{DidNothing}
 use Rattle.journal.specs.Journal.{Broken, JournalStep, Requests}
 use Rattle.journal.specs.Makes.{StaysStopped}
-use Rattle.serving.specs.Lanes.{IsInTurn, LaneAt, LaneStands, LaneValue, said_by}
+use Rattle.serving.specs.Lanes.{IsInTurn, LaneStands, LaneValue, said_by}
 use Rattle.serving.specs.Serving.{IsServing}
 use Rattle.store_core.specs.Value.{StoreValue}
 use Rattle.task_steps.specs.Serves.{NoneStopped}

@@ -1,15 +1,14 @@
 -- The trace of a world as its lanes take turns, and as they are finished.
-use Rattle.std.proofs.Common.{◌≡◌, ◌≤◌, ◌+◌, ◌-◌, ◌^◌, ℕ, zero, suc, Bool, true, false, List, [], ◌∷◌, ◌++◌, map, slice_set, Option, Some, None, refl, sym, ◌∙◌, ap, subst, arith}
-use Rattle.std.specs.Prelude.{◌≢◌, length, slice_get}
+use Rattle.std.proofs.Common.{◌≡◌, ◌≤◌, ◌+◌, ◌-◌, ◌^◌, ℕ, Bool, true, false, List, [], ◌∷◌, ◌++◌, map, slice_set, Option, Some, None, refl, sym, ◌∙◌, ap, subst, arith}
+use Rattle.std.specs.Prelude.{length}
 use Rattle.std.proofs.lemmas.List.{append-nil}
 use Rattle.disk_model.specs.Disk.{Faults, History}
 use Rattle.model_lists.specs.Lists.{Lists}
 use Rattle.list_machine.specs.Run.{Run, RunEvent, and_then}
 use Rattle.journal.specs.Journal.{Broken, JournalStep, Requests}
-use Rattle.serving.specs.Serving.{AreIdle}
 use Rattle.serving.specs.Lanes.{LaneValue}
 use Rattle.serving.specs.Turns.{IsTraceOf, LaneTurn, MadeEvents, lanes_worked}
-use Rattle.serving.proofs.TurnLemmas.{trace_finishing, trace_idle, trace_on}
+use Rattle.serving.proofs.TurnLemmas.{trace_finishing, trace_on}
 use Rattle.task_steps.specs.Step.{Seen}
 use Rattle.lane_tasks.specs.declared.task.Task.{Task}
 use Rattle.lanes.specs.Rows.{LaneRow, lane_value, lanes_of}

@@ -2,7 +2,7 @@
 use Rattle.std.proofs.Common.{◌≡◌, ◌<◌, ◌≤◌, ◌+◌, ◌-◌, ◌*◌, ◌^◌, ◌==◌, ◌&&◌, ℕ, zero, suc, Bool, true, false, cond, List, [], ◌∷◌, ◌++◌, map, slice_set, Option, Some, None, refl, sym, ◌∙◌, ap, subst, arith, inl, inr}
 use Rattle.std.specs.Prelude.{◌≢◌, ◌⊎◌, All, is_some, length, min, slice_get, slice_index_or}
 use Rattle.std.proofs.lemmas.Grind.{common_steps}
-use Rattle.std.proofs.lemmas.List.{append-nil, length-append, length-set}
+use Rattle.std.proofs.lemmas.List.{append-nil, length-append}
 use Rattle.std.proofs.lemmas.List.Elements.{All-head, All-tail, All-nil, All-cons}
 use Rattle.disk_model.specs.Disk.{Faults, History, IsMoment, IsTold, told_calls}
 use Rattle.mdbox_base.specs.declared.progress.Did.{Did}
@@ -15,27 +15,21 @@ use Rattle.model_kept.specs.Kept.{MailIsKept}
 use Rattle.model_lists.specs.Lists.{Lists}
 use Rattle.model_meaning.specs.MapMeaning.{MapMeaning}
 use Rattle.list_machine.specs.Run.{Run, RunEvent, and_then}
-use Rattle.journal.specs.GoesOn.{broken_by}
 use Rattle.journal.specs.Journal.{Broken, JournalStep, Requests, moment_of, no_broken}
 use Rattle.journal.proofs.JournalLemmas.{steps_within}
 use Rattle.serving.specs.Lanes.{replies_behind}
-use Rattle.serving.specs.Serving.{AreIdle}
 use Rattle.serving.specs.Turns.{IsTraceOf, LaneTurn}
 use Rattle.serving.proofs.LaneLemmas.{get_set_other, get_set_same, nat_cases, one_some}
-use Rattle.serving.proofs.ServingLemmas.{all_at}
-use Rattle.store_core.specs.Value.{StoreValue}
 use Rattle.task_claims.specs.Claims.{one_if}
 use Rattle.task_steps.specs.Serves.{BreaksBy}
 use Rattle.task_steps.specs.Step.{Seen, ended_by}
 use Rattle.mail_fetch.specs.Task.{seen_in}
-use Rattle.lane_tasks.specs.Tasks.{BeginsTask}
 use Rattle.lanes.specs.Going.{AddsEvent, IsGoing, IsStepOf, halves_told}
-use Rattle.lanes.specs.Rows.{LaneRow, RowGoesOn, after_event, lane_value, lanes_of, queue_in}
+use Rattle.lanes.specs.Rows.{LaneRow, lanes_of}
 use Rattle.lanes.specs.Worlds.{AreAdded, AreCounted, AreEntriesAt, IsEntryAt, IsWorldOf, Works, WorldValue, entries_broken, entries_made, replied_behind, replied_in}
 use Rattle.lanes.specs.declared.lane.LaneEvent.{LaneEvent}
-use Rattle.lanes.specs.declared.lane.Queued.{Queued}
 use Rattle.lanes.proofs.EntryLemmas.{entries_as_many, entries_join, entries_stay, journal_short, moment_last, moment_stays}
-use Rattle.lanes.proofs.GoingLemmas.{going_on, in_turn, value_at}
+use Rattle.lanes.proofs.GoingLemmas.{going_on, in_turn}
 
 -- ---- what the disk tells
 

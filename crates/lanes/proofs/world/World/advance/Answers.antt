@@ -1,11 +1,9 @@
-use Rattle.std.proofs.Common.{◌≡◌, ◌≤◌, ◌+◌, ◌-◌, ◌++◌, ◌∷◌, [], Bool, false, true, not, List, length, slice_get, Option, Some, None, refl, sym, ◌∙◌, ap, subst, arith}
+use Rattle.std.proofs.Common.{◌≡◌, ◌≤◌, ◌-◌, ◌++◌, ◌∷◌, [], Bool, true, not, length, slice_get, Some, sym, ◌∙◌, ap, subst, arith}
 use Rattle.std.specs.Prelude.{if◌then◌else◌}
 use Rattle.std.specs.Result.{is_ok}
 use Rattle.std.proofs.lemmas.Option.{slice_get-get_or}
-use Rattle.serving.specs.Turns.{LaneTurn}
 use Rattle.lanes.specs.Rows.{LaneRow}
-use Rattle.lanes.specs.Worlds.{IsIdleLane, IsLaneEvent, WorldValue, turn_of, world_value}
-use Rattle.lanes.specs.declared.lane.Queued.{Queued}
+use Rattle.lanes.specs.Worlds.{WorldValue, turn_of, world_value}
 use Rattle.lanes.proofs.SoundLemmas.{not_idle}
 use Rattle.lanes.proofs.TraceLemmas.{idle_turn, lane_turn}
 use Rattle.lanes.proofs.world.World.advance.Goals as goal

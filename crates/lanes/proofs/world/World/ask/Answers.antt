@@ -1,11 +1,10 @@
-use Rattle.std.proofs.Common.{◌≡◌, ◌≤◌, ◌<◌, ◌+◌, ◌-◌, ◌*◌, ◌++◌, ◌∷◌, [], ℕ, false, List, length, slice_get, slice_set, Option, Some, None, vec_len, vec_capacity, refl, sym, ◌∙◌, ap, subst, arith}
+use Rattle.std.proofs.Common.{◌≡◌, ◌≤◌, ◌<◌, ◌+◌, ◌-◌, ◌++◌, ◌∷◌, [], ℕ, false, List, length, slice_get, Option, Some, None, sym, ◌∙◌, ap, subst, arith}
 use Rattle.std.proofs.lemmas.Option.{slice_get-get_or}
 use Rattle.std.proofs.lemmas.List.{length-append, length-set}
 use Rattle.mdbox_base.specs.declared.replies.Reply.{Reply}
 use Rattle.lanes.specs.Asked.{world_asked}
 use Rattle.lanes.specs.Rows.{LaneRow}
 use Rattle.lanes.specs.Worlds.{IsSoundWorld, WorldValue, world_value}
-use Rattle.lanes.specs.declared.lane.Queued.{Queued}
 use Rattle.lanes.proofs.AskLemmas.{sound_asked, world_set}
 use Rattle.lanes.proofs.world.World.ask.Goals as goal
 
