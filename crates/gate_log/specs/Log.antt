@@ -1,5 +1,5 @@
 -- Logs on a disk.
-use Rattle.std.specs.Prelude.{◌≡◌, ◌≢◌, ◌⊎◌, ◌≤◌, ℕ, List, [], ◌∷◌, ◌++◌, length, take, drop, max, All, Option, Some, None, IfSome}
+use Rattle.std.specs.Prelude.{◌≡◌, ◌≢◌, ◌⊎◌, ◌<◌, ◌≤◌, ℕ, false, List, [], ◌∷◌, ◌++◌, length, take, drop, max, All, Option, Some, None, IfSome}
 use Rattle.disk_model.specs.Disk.{FileState, DiskState, History, IfTold, Keeps, named, reading}
 use Rattle.disk_model.specs.declared.name.FileName.{FileName}
 use Rattle.model_logs.specs.declared.log_head.LogHead.{LogHead}
@@ -33,6 +33,17 @@ Holds log entries history = IfTold history (IsLogHeld log entries)
 -- the file is a log with these entries, or with one more
 abbrev pub IsLogWithOrWithout : LogHead → List (List ℕ) → List ℕ → Option (List ℕ) → Type 0
 IsLogWithOrWithout head entries entry octets = IsLogFile octets head entries ⊎ IsLogFile octets head (entries ++ entry ∷ [])
+
+-- The disk reads a log that nothing needs yet, with these entries: its name is synced, and what stands there is octets.
+-- They need not be synced.
+pub record IsLogDrafted (log : LogState) (entries : List (List ℕ)) (disk : DiskState) : Type 0 where
+  pub reads : IsLogRead log entries disk
+  pub named : (disk log.name).is_name_loose ≡ false
+  pub are_octets : All (λ octet. octet < 256) (log_text log.head entries)
+
+-- the disk reads this draft of a log, with these entries
+abbrev pub Drafts : LogState → List (List ℕ) → Option History → Type 0
+Drafts log entries history = IfTold history (IsLogDrafted log entries)
 
 -- octets, cut one after another into pieces of these lengths
 abbrev pub cut_by : List ℕ → List ℕ → List (List ℕ)

@@ -1,10 +1,10 @@
 // Logs on a disk.
-ghost use Rattle.std.specs.Prelude.{◌≡◌, ◌≢◌, Some, IsErrOf, ◌+◌, ◌-◌, ◌*◌, ◌<◌, ◌≤◌, ◌^◌, ◌++◌, ◌∷◌, [], ℕ, List, All, length, sum, max, OnOk, OnErr, IfOk, IfErr, IsErr, IsOk};
+ghost use Rattle.std.specs.Prelude.{◌≡◌, ◌≢◌, Option, Some, IsErrOf, ◌+◌, ◌-◌, ◌*◌, ◌<◌, ◌≤◌, ◌^◌, ◌++◌, ◌∷◌, [], ℕ, List, All, length, sum, max, OnOk, OnErr, IfOk, IfErr, IsErr, IsOk};
 ghost use Rattle.disk_model.specs.FaultCounts.{NoFault, ChangeFaultCounted, AnyFaultCounted};
-ghost use Rattle.disk_model.specs.Disk.{EachImage, OthersStay, SameButFor, IfTold, Keeps, reading, IsIdle};
+ghost use Rattle.disk_model.specs.Disk.{History, EachImage, OthersStay, SameButFor, IfTold, Keeps, reading, IsIdle};
 ghost use Rattle.model_logs.specs.LogFile.{IsVersionOf, IsLog, IsLogFile};
 ghost use Rattle.gate_log.specs.State.{LogState, IsSameLog};
-ghost use Rattle.gate_log.specs.Log.{Reads, Holds, cut_by, IsLogWithOrWithout, IsLogWithOrWithoutAll, IsAtMostAsLong, NamedButFor};
+ghost use Rattle.gate_log.specs.Log.{Reads, Holds, Drafts, cut_by, IsLogWithOrWithout, IsLogWithOrWithoutAll, IsAtMostAsLong, NamedButFor};
 ghost use Rattle.gate_log.specs.Reading.{IsReading, IsOpenError};
 
 use crate::error::{DiskFault, LogError};
@@ -175,14 +175,72 @@ impl GateLog {
         ensures further { OnOk result (self.new.end ≡ self.old.end + (length octets.now + 5 * length lengths.now)) }
     {
         let size = lay_out(&mut self.buffer, octets, lengths);
-        disk.write_at(self.name, self.end + 1, &self.buffer[..size])?;
+        disk.write_at(self.name, self.end + 1, &self.buffer[..size])?; // behind the closed gate
         disk.sync(self.name)?; // before the gate opens on the records
         disk.write_at(self.name, self.end, &[OPEN])?;
         disk.sync(self.name)?;
         self.end += size as u64;
         Ok(())
     }
+
+    /// Adds entries to a draft, a log that nothing needs yet, as `append_many` does, and syncs nothing: until it is
+    /// settled, a crash may leave anything of its file.
+    pub fn extend<D: Disk>(
+        &mut self,
+        disk: &mut D,
+        octets: &[u8],
+        lengths: &[u32],
+    ) -> Result<(), DiskFault>
+        requires read { (entries : List (List ℕ)) × Reads self.old entries (D.history disk.old) }
+        requires many { 1 ≤ length lengths.now }
+        requires some { All (λ size. 1 ≤ size) lengths.now }
+        requires whole { sum lengths.now ≡ length octets.now }
+        requires room { length octets.now + 5 * length lengths.now ≤ self.old.room }
+
+        // Of the other files each image has what an image had before.
+        ensures others_stay { EachImage (λ _ image. OthersStay self.old.name (D.history disk.old) image) (D.history disk.old) (D.history disk.new) }
+
+        // After Ok the draft has these entries, and no other file has changed.
+        ensures drafted { OnOk result ((entries : List (List ℕ)) → Drafts self.old entries (D.history disk.old) → Drafts self.new (entries ++ cut_by lengths.now octets.now) (D.history disk.new)) }
+        ensures others { OnOk result (SameButFor self.old.name (D.history disk.old) (D.history disk.new)) }
+
+        ensures fault { ChangeFaultCounted (IsErr result) (D.faults disk.old) (D.faults disk.new) }
+        ensures unread { (D.faults disk.new).reads ≡ (D.faults disk.old).reads }
+        ensures unfailed { OnOk result (NoFault (D.faults disk.old) (D.faults disk.new)) }
+        ensures log { IsSameLog self.old self.new }
+        ensures further { OnOk result (self.new.end ≡ self.old.end + (length octets.now + 5 * length lengths.now)) }
+    {
+        let size = lay_out(&mut self.buffer, octets, lengths);
+        disk.write_at(self.name, self.end + 1, &self.buffer[..size])?;
+        disk.write_at(self.name, self.end, &[OPEN])?;
+        self.end += size as u64;
+        Ok(())
+    }
+
+    /// Syncs a draft: a crash leaves it as it reads then.
+    pub fn settle<D: Disk>(&self, disk: &mut D) -> Result<(), DiskFault>
+        requires read { (entries : List (List ℕ)) × Drafts self.now entries (D.history disk.old) }
+
+        // Of the other files each image has what an image had before.
+        ensures others_stay { EachImage (λ _ image. OthersStay self.now.name (D.history disk.old) image) (D.history disk.old) (D.history disk.new) }
+
+        // After Ok the disk holds the log, and no other file has changed.
+        ensures held { OnOk result ((entries : List (List ℕ)) → Drafts self.now entries (D.history disk.old) → Holds self.now entries (D.history disk.new)) }
+        ensures others { OnOk result (SameButFor self.now.name (D.history disk.old) (D.history disk.new)) }
+
+        ensures fault { ChangeFaultCounted (IsErr result) (D.faults disk.old) (D.faults disk.new) }
+        ensures unread { (D.faults disk.new).reads ≡ (D.faults disk.old).reads }
+        ensures unfailed { OnOk result (NoFault (D.faults disk.old) (D.faults disk.new)) }
+    {
+        disk.sync(self.name)?;
+        Ok(())
+    }
 }
+
+/// A log that the disk holds, as one that was just made, is a draft.
+pub fn held_logs_are_drafts()
+    ensures { (log : LogState) (entries : List (List ℕ)) (history : Option History) → Holds log entries history → Drafts log entries history }
+{}
 
 /// Makes an empty log, synced, with its name. What stood in a file of that name is gone.
 pub fn create_log<D: Disk>(
