@@ -170,6 +170,18 @@ impl BoxIndex {
         self.rows.reserve()
     }
 
+    /// Makes room for so many messages at least, no more than 1,024. If there is room already, no memory is taken.
+    pub fn reserve_rows(&mut self, rows: usize) -> Result<(), NoMemory>
+        requires { rows ≤ 1024 }
+        ensures ok { OnOk result (rows ≤ self.new.room) }
+        ensures err { OnErr result (self.new ≡ self.old) }
+        ensures full { IsErr result → self.old.room < rows }
+        ensures no_less { self.old.room ≤ self.new.room }
+        ensures same { self.new.meaning ≡ self.old.meaning }
+    {
+        self.rows.reserve_rows(rows)
+    }
+
     /// Takes in an entry that fits: its keywords go into the row. Only an entry that adds a message takes memory, and only
     /// if there is no room for it; without it the index stays.
     pub fn apply(&mut self, entry: BoxEntry) -> Result<(), NoMemory>

@@ -1,5 +1,5 @@
 // One piece of the rows of a mailbox.
-ghost use Rattle.std.specs.Prelude.{◌≡◌, ◌<◌, ◌≤◌, ◌+◌, ◌-◌, ◌↔◌, ◌++◌, ◌∷◌, [], ◌==◌, IsTrue, IsNone, IsErr, IfSome, OnOk, OnErr, false, length, map, filter, find, not, slice_get};
+ghost use Rattle.std.specs.Prelude.{◌≡◌, ◌<◌, ◌≤◌, ◌+◌, ◌-◌, ◌↔◌, ◌++◌, ◌∷◌, [], ◌==◌, IsTrue, IsNone, IsErr, IfOk, IfSome, OnOk, OnErr, false, length, map, filter, find, not, slice_get};
 ghost use Rattle.std.specs.List.{HoldsAt};
 ghost use Rattle.std.specs.Option.{option_copied};
 ghost use Rattle.box_index.specs.Row.{changed_row};
@@ -136,6 +136,40 @@ impl Piece {
         ensures same { self.new.rows ≡ self.old.rows }
     {
         self.rows.reserve(1)?;
+        Ok(())
+    }
+
+    /// A piece without rows, with room for so many, of which a piece can have no more.
+    pub(crate) fn with_room(alloc: Global, rows: usize) -> Result<Piece, NoMemory>
+        requires { rows ≤ 1024 }
+        ensures rows { IfOk result (λ piece. piece.rows ≡ []) }
+        ensures room { IfOk result (λ piece. rows ≤ piece.room) }
+    {
+        Ok(Piece {
+            rows: Vec::with_capacity(alloc, rows)?,
+        })
+    }
+
+    /// Whether so many rows can be added, as far as the number of a piece's rows goes.
+    pub(crate) fn can_have(&self, more: usize) -> bool
+        requires { more ≤ 1024 }
+        ensures yes { IsTrue result → length self.now.rows + more ≤ 1024 }
+        ensures some { result ≡ false → 1 ≤ length self.now.rows }
+        ensures room { result ≡ false → self.now.room < more }
+    {
+        more <= PIECE_ROWS - self.rows.len()
+    }
+
+    /// Makes room for so many rows at least.
+    pub(crate) fn reserve_rows(&mut self, rows: usize) -> Result<(), NoMemory>
+        requires { length self.old.rows + rows ≤ 1024 }
+        ensures ok { OnOk result (rows ≤ self.new.room) }
+        ensures err { OnErr result (self.new ≡ self.old) }
+        ensures full { IsErr result → self.old.room < rows }
+        ensures no_less { self.old.room ≤ self.new.room }
+        ensures same { self.new.rows ≡ self.old.rows }
+    {
+        self.rows.reserve(rows)?;
         Ok(())
     }
 

@@ -124,6 +124,21 @@ impl Pieces {
         self.last.reserve()
     }
 
+    /// Makes room for so many rows at least.
+    pub(crate) fn reserve_rows(&mut self, rows: usize) -> Result<(), NoMemory>
+        requires { rows ≤ 1024 }
+        ensures ok { OnOk result (rows ≤ self.new.room) }
+        ensures err { OnErr result (self.new ≡ self.old) }
+        ensures full { IsErr result → self.old.room < rows }
+        ensures no_less { self.old.room ≤ self.new.room }
+        ensures same { self.new.rows ≡ self.old.rows }
+    {
+        if self.last.can_have(rows) {
+            return self.last.reserve_rows(rows);
+        }
+        begin_piece_for(&mut self.earlier, &mut self.last, rows)
+    }
+
     /// Adds a row, for which there is room.
     pub(crate) fn push(&mut self, row: BoxRow)
         requires room { 1 ≤ self.old.room }
@@ -209,6 +224,25 @@ fn begin_piece(earlier: &mut Vec<Piece>, last: &mut Piece) -> Result<(), NoMemor
 {
     earlier.reserve(1)?;
     let next = Piece::empty(*earlier.allocator());
+    earlier.push_reserved(replace(last, next));
+    Ok(())
+}
+
+/// Follows a piece by one without rows, which has room for so many.
+fn begin_piece_for(
+    earlier: &mut Vec<Piece>,
+    last: &mut Piece,
+    rows: usize,
+) -> Result<(), NoMemory>
+    requires some { 1 ≤ length last.old.rows }
+    requires few { rows ≤ 1024 }
+    ensures ok { OnOk result (rows ≤ last.new.room) }
+    ensures same { rows_in earlier.new.items ++ last.new.rows ≡ rows_in earlier.old.items ++ last.old.rows }
+    ensures filled { AreFilled earlier.old.items → AreFilled earlier.new.items }
+    ensures err { OnErr result (last.new ≡ last.old) }
+{
+    let next = Piece::with_room(*earlier.allocator(), rows)?;
+    earlier.reserve(1)?;
     earlier.push_reserved(replace(last, next));
     Ok(())
 }

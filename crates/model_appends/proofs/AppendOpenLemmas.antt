@@ -50,7 +50,7 @@ length_by number e (box ∷ boxes) (log ∷ logs) = by_test (box.number == numbe
     by_test true rest = refl
     by_test false rest = ap suc rest
 
-box_more_good : (e : BoxEntry) → BoxInRange e → (log : List BoxEntry) → BoxFits (box_meaning log) e → AreBoxEntries log → AreBoxEntries (log ++ e ∷ [])
+pub box_more_good : (e : BoxEntry) → BoxInRange e → (log : List BoxEntry) → BoxFits (box_meaning log) e → AreBoxEntries log → AreBoxEntries (log ++ e ∷ [])
 box_more_good e in_range log fits h = (each_more BoxInRange log e h.0 in_range, box_fit_more [] log e h.1 fits)
 
 itself_has : (m : MapMeaning) (e : BoxEntry) (row : LogRow) → HasItsRecord m row → HasItsRecord m (row_changed e row)
@@ -68,7 +68,7 @@ itself_has m (entry.K u ws) row h = by_test (u.0 == row.uid)
     by_test false = h
 itself_has m (entry.R u) row h = h
 
-rows_have : (m : MapMeaning) (e : BoxEntry) → All (HasItsRecord m) (row_made e) → (log : List BoxEntry) → BoxFits (box_meaning log) e → All (HasItsRecord m) (rows_after log) → All (HasItsRecord m) (rows_after (log ++ e ∷ []))
+pub rows_have : (m : MapMeaning) (e : BoxEntry) → All (HasItsRecord m) (row_made e) → (log : List BoxEntry) → BoxFits (box_meaning log) e → All (HasItsRecord m) (rows_after log) → All (HasItsRecord m) (rows_after (log ++ e ∷ []))
 rows_have m e made log fits h =
     subst (λ (rows : List LogRow). All (HasItsRecord m) rows) (sym (one_more row_rules log e))
     (All-append (HasItsRecord m) _ (row_made e) (kept_all row_rules e (rows_after log) (HasItsRecord m) (HasItsRecord m) (λ row k. itself_has m e row k) h) made)

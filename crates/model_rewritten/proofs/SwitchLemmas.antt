@@ -45,13 +45,13 @@ only_box m number box s found =
 -- ---- the mailboxes
 
 -- what a change makes of each mailbox, its log and its list
-abbrev Switches : Files → MapMeaning → ℕ → ℕ → (Mailbox → Mailbox) → MapBox → Type 0
+abbrev pub Switches : Files → MapMeaning → ℕ → ℕ → (Mailbox → Mailbox) → MapBox → Type 0
 Switches a m k g change box = box.number ≡ k → (x : Mailbox) → IsMailbox a m box x → IsMailbox a m (record box { generation = g }) (change x)
 
-abbrev changed_one : ℕ → (Mailbox → Mailbox) → Lists → Lists
+abbrev pub changed_one : ℕ → (Mailbox → Mailbox) → Lists → Lists
 changed_one k change xs = map (λ x. if k == x.number then change x else x) xs
 
-mailboxes_switched : (a : Files) (m : MapMeaning) (k : BoxNo) (g : ℕ) (change : Mailbox → Mailbox) (boxes : List MapBox) (xs : Lists) → All (Switches a m k.0 g change) boxes → AreMailboxes a m boxes xs
+pub mailboxes_switched : (a : Files) (m : MapMeaning) (k : BoxNo) (g : ℕ) (change : Mailbox → Mailbox) (boxes : List MapBox) (xs : Lists) → All (Switches a m k.0 g change) boxes → AreMailboxes a m boxes xs
     → AreMailboxes a m (map (box_changed (entry.G k g)) boxes) (changed_one k.0 change xs)
 mailboxes_switched a m k g change [] [] all h = tt
 mailboxes_switched a m k g change [] (x ∷ xs) all h = absurd h
@@ -87,7 +87,7 @@ append_with a store entries lists later k g s in_range fits mailboxes counts =
     }
 
 -- with other messages: each is stored, and the counts are enough for all
-switched_is : (k next : ℕ) (messages : List ListedMessage) (xs : Lists) → list_switched k next messages xs ≡ changed_one k (λ x. record x { next_uid = next; messages = messages }) xs
+pub switched_is : (k next : ℕ) (messages : List ListedMessage) (xs : Lists) → list_switched k next messages xs ≡ changed_one k (λ x. record x { next_uid = next; messages = messages }) xs
 switched_is k next messages [] = refl
 switched_is k next messages (x ∷ xs) = ap (λ (ys : Lists). (if k == x.number then record x { next_uid = next; messages = messages } else x) ∷ ys) (switched_is k next messages xs)
 

@@ -39,10 +39,10 @@ use Rattle.model_appends.proofs.AppendSafeLemmas.{regions_as, instances_as}
 use Rattle.model_rewritten.specs.Switched.{log_switched}
 use Rattle.model_rewritten.proofs.SwitchLemmas.{records_with, boxes_with, only_box}
 
-abbrev Rising : MapBox → MapBox → Type 0
+abbrev pub Rising : MapBox → MapBox → Type 0
 Rising a b = a.number < b.number
 
-turned : (m n : ℕ) (t : Bool) → (m == n) ≡ t → (n == m) ≡ t
+pub turned : (m n : ℕ) (t : Bool) → (m == n) ≡ t → (n == m) ≡ t
 turned m n true e = equal_yes n m (sym (equal_is m n e))
 turned m n false e = by_test (n == m) refl
   where
@@ -53,7 +53,7 @@ turned m n false e = by_test (n == m) refl
 -- ---- the logs, one of which is another
 
 -- no later mailbox has the number of this one
-untouched : (k : ℕ) (log : List BoxEntry) (b : MapBox) (boxes : List MapBox) (logs : List (List BoxEntry)) → All (Rising b) boxes → b.number ≡ k → log_switched k log boxes logs ≡ logs
+pub untouched : (k : ℕ) (log : List BoxEntry) (b : MapBox) (boxes : List MapBox) (logs : List (List BoxEntry)) → All (Rising b) boxes → b.number ≡ k → log_switched k log boxes logs ≡ logs
 untouched k log b [] [] above is = refl
 untouched k log b [] (old ∷ logs) above is = refl
 untouched k log b (c ∷ boxes) [] above is = refl

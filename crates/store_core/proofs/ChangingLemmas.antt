@@ -15,7 +15,7 @@ use Rattle.store_core.proofs.MapAppendLemmas.{boxes_read}
 use Rattle.store_core.proofs.MapCrashLemmas.{held_map}
 use Rattle.store_core.proofs.NamingLemmas.{Appends, leaves_by, settled_by}
 use Rattle.store_core.proofs.PickingLemmas.{reads_other}
-use Rattle.store_core.proofs.UnnamedLogLemmas.{map_known}
+use Rattle.store_core.proofs.UnneededLogLemmas.{map_known}
 
 -- Such an entry can be appended. These are the open logs then, and the entries of the mailboxes' logs.
 pub record Changing {D : Type 0} (h : Option History) (v : StoreValue D) (e : MapEntry) (boxes : List OpenBox) : Type 0 where

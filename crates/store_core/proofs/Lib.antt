@@ -48,6 +48,11 @@ pub mod StoreFileLemmas
 pub mod SwitchCallLemmas
 pub mod SwitchCrashLemmas
 pub mod SwitchLemmas
-pub mod UnnamedLogLemmas
+pub mod UnneededLogLemmas
 pub mod UsedFileLemmas
 pub mod UselessLemmas
+pub mod DraftLemmas
+pub mod DraftCallLemmas
+pub mod ReplacedLogLemmas
+pub mod PutInForceLemmas
+pub mod DraftSwitchLemmas

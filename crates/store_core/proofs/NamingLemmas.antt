@@ -22,7 +22,7 @@ use Rattle.store_core.proofs.MailChangeLemmas.{known_beside, stay_beside}
 use Rattle.store_core.proofs.MapAppendLemmas.{boxes_read}
 use Rattle.store_core.proofs.MapCrashLemmas.{held_map}
 use Rattle.store_core.proofs.PickingLemmas.{reads_other}
-use Rattle.store_core.proofs.UnnamedLogLemmas.{map_known}
+use Rattle.store_core.proofs.UnneededLogLemmas.{map_known}
 
 -- the entry, and the mailbox that it makes
 abbrev pub naming : BoxNo → List ℕ → MapEntry

@@ -1,6 +1,7 @@
 pub mod Append
 pub mod Beside
 pub mod Deleting
+pub mod Drafts
 pub mod Dues
 pub mod Files
 pub mod Keeping

@@ -1,6 +1,7 @@
 //! An open store: its disk, its logs, and what they mean.
 #![tactic(auto)]
 
+pub use box_draft::BoxDraft;
 pub use error::{PlaceStop, StepError, Stopped};
 pub use laws::{
     candidates_are_found, counts_cover_listings, instances_are_kept, instances_read_as_before,
@@ -10,6 +11,7 @@ pub use room::StoreRoom;
 pub use store::{OpenBox, OpenLogs, Store};
 
 mod append;
+mod box_draft;
 mod due;
 mod error;
 mod laws;

@@ -43,6 +43,7 @@ mod append_map;
 mod beside;
 mod boxes;
 mod deleting;
+mod drafts;
 mod files;
 mod instances;
 mod renaming;

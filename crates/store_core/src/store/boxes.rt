@@ -101,7 +101,7 @@ impl<D: Disk> Store<D> {
         let room = LogRoom::of(self.alloc, ENTRY_ROOM)?;
         let index = BoxIndex::empty(self.alloc)?;
         reserve_one(&mut self.made)?;
-        match make_log(self.alloc, &mut self.disk, self.id, number) {
+        match make_log(self.alloc, &mut self.disk, self.id, number, 1) {
             Ok(log) => {
                 keep_log(&mut self.made, number, log, room, index);
                 Ok(())
@@ -241,17 +241,18 @@ fn reserve_one(boxes: &mut Vec<OpenBox>) -> Result<(), NoMemory>
     Ok(())
 }
 
-/// Makes the log of generation 1 of a mailbox, without entries.
-fn make_log<D: Disk>(
+/// Makes the log of a mailbox in this generation, without entries.
+pub(super) fn make_log<D: Disk>(
     alloc: Global,
     disk: &mut D,
     store: StoreId,
     number: BoxNo,
+    generation: u32,
 ) -> Result<GateLog, DiskFault>
-    ensures any_moment { EachImage (λ _ image. OthersStay (file.Box number.0 1) (D.history disk.old) image) (D.history disk.old) (D.history disk.new) }
+    ensures any_moment { EachImage (λ _ image. OthersStay (file.Box number.0 generation) (D.history disk.old) image) (D.history disk.old) (D.history disk.new) }
     ensures made { IfOk result (λ log. Holds log [] (D.history disk.new)) }
-    ensures log { IfOk result (λ log. log ≡ record { name = file.Box number.0 1; head = head_of store.0 kind.Box number.0 1; end = 25; count = 0; room = 0 }) }
-    ensures others { OnOk result (NamedButFor (file.Box number.0 1) (D.history disk.old) (D.history disk.new)) }
+    ensures log { IfOk result (λ log. log ≡ record { name = file.Box number.0 generation; head = head_of store.0 kind.Box number.0 generation; end = 25; count = 0; room = 0 }) }
+    ensures others { OnOk result (NamedButFor (file.Box number.0 generation) (D.history disk.old) (D.history disk.new)) }
     ensures fault { ChangeFaultCounted (IsErr result) (D.faults disk.old) (D.faults disk.new) }
     ensures unfailed { OnOk result (NoFault (D.faults disk.old) (D.faults disk.new)) }
 {
@@ -260,13 +261,13 @@ fn make_log<D: Disk>(
         store,
         kind: LogKind::Box,
         number: number.0,
-        generation: 1,
+        generation,
     };
-    create_log(alloc, disk, FileName::Box(number.0, 1), head).map_err(|_| DiskFault)
+    create_log(alloc, disk, FileName::Box(number.0, generation), head).map_err(|_| DiskFault)
 }
 
 /// Removes the log of this generation of a mailbox, and syncs all names.
-fn remove_log<D: Disk>(disk: &mut D, number: BoxNo, generation: u32) -> Result<(), DiskFault>
+pub(super) fn remove_log<D: Disk>(disk: &mut D, number: BoxNo, generation: u32) -> Result<(), DiskFault>
     ensures any_moment { EachImage (λ _ image. OthersStay (file.Box number.0 generation) (D.history disk.old) image) (D.history disk.old) (D.history disk.new) }
     ensures gone { OnOk result (IfTold (D.history disk.new) (λ now. now (file.Box number.0 generation) ≡ no_file)) }
     ensures others { OnOk result (NamedButFor (file.Box number.0 generation) (D.history disk.old) (D.history disk.new)) }

@@ -3,7 +3,7 @@ use Rattle.disk_model.specs.declared.name.FileName.TheVariants as file
 use Rattle.store_core.proofs.BoxCrashLemmas.{leaves_none}
 use Rattle.store_core.proofs.KnownInstanceLemmas.{instances_logged}
 use Rattle.store_core.proofs.MadeCallLemmas.{created, one_more, keeps_others, logged_as, room_same}
-use Rattle.store_core.proofs.UnnamedLogLemmas.{besides, leaves_beside, named_but, settled_then, store_beside, stored_then}
+use Rattle.store_core.proofs.UnneededLogLemmas.{besides, leaves_beside, named_but, settled_then, store_beside, stored_then, unnamed_free}
 use Rattle.store_core.proofs.MailStayLemmas.{box_log_kept}
 use Rattle.store_core.proofs.store.Store.create_box.Goals as goal
 
@@ -21,9 +21,10 @@ pub invariant_of-self-in-Ok : goal.invariant_of-self-in-Ok
 invariant_of-self-in-Ok g c =
     let runs = ap (λ v. v.stopped) c.self.view_is ∙ c.requires.running in
     let unnamed = subst (λ v. IsUnnamed c.args.number.0 v.map) (sym c.self.view_is) c.requires.unnamed in
+    let free = unnamed_free c.args.number.0 1 c.self.inside.map.meaning unnamed in
     let others = named_but (file.Box c.args.number.0 1) _ _ c.in-Ok.ensures.others in (
       c.self.invariant.0,
-      store_beside c.args.number.0 1 _ _ _ c.make_log.new.disk c.keep_log.new.made.items c.self.invariant.1 runs unnamed (besides (file.Box c.args.number.0 1) _ _ others),
+      store_beside c.args.number.0 1 _ _ _ c.make_log.new.disk c.keep_log.new.made.items c.self.invariant.1 runs free (besides (file.Box c.args.number.0 1) _ _ others),
       room_same _ _ refl refl c.self.invariant.2,
       created _ _ _ _ c.keep_log.ensures.0 c.in-Ok.log c.in_ok-room.room c.args.number.0 c.self.invariant.3 runs (c.keep_log.ensures.1 ∙ ap (λ (bs : List OpenBox). bs ++ c.keep_log.ensures.0 ∷ []) c.reserve_one.ensures.same) refl refl
           c.requires.number (subst (λ v. c.args.number.0 ≤ v.drawn.mailbox) (sym c.self.view_is) c.requires.drawn) unnamed (subst (λ v. has_made_log c.args.number.0 v ≡ false) (sym c.self.view_is) c.requires.unmade)
@@ -36,22 +37,25 @@ pub returns-in-Ok-clause-any_moment : goal.returns-in-Ok-clause-any_moment
 returns-in-Ok-clause-any_moment g c =
     let runs = ap (λ v. v.stopped) c.self.view_is ∙ c.requires.running in
     let unnamed = subst (λ v. IsUnnamed c.args.number.0 v.map) (sym c.self.view_is) c.requires.unnamed in
+    let free = unnamed_free c.args.number.0 1 c.self.inside.map.meaning unnamed in
     subst (λ v. (lists : Lists) → IsSettledFor lists (g.D.Disk.history v.disk) → Leaves lists lists (g.D.Disk.history v.disk) (g.D.Disk.history c.make_log.new.disk)) c.self.view_is
-    (leaves_beside c.args.number.0 1 _ _ _ c.self.invariant.1 runs unnamed (g.met.D.Disk.reads_image c.self.inside.disk) c.make_log.ensures.any_moment)
+    (leaves_beside c.args.number.0 1 _ _ _ c.self.invariant.1 runs free (g.met.D.Disk.reads_image c.self.inside.disk) c.make_log.ensures.any_moment)
 
 pub returns-in-Err-clause-any_moment : goal.returns-in-Err-clause-any_moment
 returns-in-Err-clause-any_moment g c =
     let runs = ap (λ v. v.stopped) c.self.view_is ∙ c.requires.running in
     let unnamed = subst (λ v. IsUnnamed c.args.number.0 v.map) (sym c.self.view_is) c.requires.unnamed in
+    let free = unnamed_free c.args.number.0 1 c.self.inside.map.meaning unnamed in
     subst (λ v. (lists : Lists) → IsSettledFor lists (g.D.Disk.history v.disk) → Leaves lists lists (g.D.Disk.history v.disk) (g.D.Disk.history c.make_log.new.disk)) c.self.view_is
-    (leaves_beside c.args.number.0 1 _ _ _ c.self.invariant.1 runs unnamed (g.met.D.Disk.reads_image c.self.inside.disk) c.make_log.ensures.any_moment)
+    (leaves_beside c.args.number.0 1 _ _ _ c.self.invariant.1 runs free (g.met.D.Disk.reads_image c.self.inside.disk) c.make_log.ensures.any_moment)
 
 pub returns-in-Ok-clause-settled : goal.returns-in-Ok-clause-settled
 returns-in-Ok-clause-settled g c =
     let runs = ap (λ v. v.stopped) c.self.view_is ∙ c.requires.running in
     let unnamed = subst (λ v. IsUnnamed c.args.number.0 v.map) (sym c.self.view_is) c.requires.unnamed in
+    let free = unnamed_free c.args.number.0 1 c.self.inside.map.meaning unnamed in
     subst (λ v. (lists : Lists) → IsSettledFor lists (g.D.Disk.history v.disk) → IsSettledFor lists (g.D.Disk.history c.make_log.new.disk)) c.self.view_is
-    (settled_then c.args.number.0 1 _ _ _ c.self.invariant.1 runs unnamed (g.met.D.Disk.reads_image c.self.inside.disk) (besides (file.Box c.args.number.0 1) _ _ (named_but (file.Box c.args.number.0 1) _ _ c.in-Ok.ensures.others)))
+    (settled_then c.args.number.0 1 _ _ _ c.self.invariant.1 runs free (g.met.D.Disk.reads_image c.self.inside.disk) (besides (file.Box c.args.number.0 1) _ _ (named_but (file.Box c.args.number.0 1) _ _ c.in-Ok.ensures.others)))
 
 pub returns-in-Ok-clause-stored : goal.returns-in-Ok-clause-stored
 returns-in-Ok-clause-stored g c =

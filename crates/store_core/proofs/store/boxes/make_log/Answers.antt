@@ -5,5 +5,5 @@ use Rattle.store_core.proofs.store.boxes.make_log.Goals as goal
 
 pub returns-clause-any_moment : goal.returns-clause-any_moment
 returns-clause-any_moment g c =
-    each_image-map (λ _ image. IfTold (g.D.Disk.history c.args.disk.now) (λ before. IsAtMostAsLong 26 (before (file.Box c.args.number.0 1)) (image (file.Box c.args.number.0 1))) × OthersStay (file.Box c.args.number.0 1) (g.D.Disk.history c.args.disk.now) image)
-    (λ _ image. OthersStay (file.Box c.args.number.0 1) (g.D.Disk.history c.args.disk.now) image) (g.D.Disk.history c.args.disk.now) (g.D.Disk.history c.create_log.new.disk) (λ moment image i. i.1) c.create_log.ensures.any_moment
+    each_image-map (λ _ image. IfTold (g.D.Disk.history c.args.disk.now) (λ before. IsAtMostAsLong 26 (before (file.Box c.args.number.0 c.args.generation)) (image (file.Box c.args.number.0 c.args.generation))) × OthersStay (file.Box c.args.number.0 c.args.generation) (g.D.Disk.history c.args.disk.now) image)
+    (λ _ image. OthersStay (file.Box c.args.number.0 c.args.generation) (g.D.Disk.history c.args.disk.now) image) (g.D.Disk.history c.args.disk.now) (g.D.Disk.history c.create_log.new.disk) (λ moment image i. i.1) c.create_log.ensures.any_moment

@@ -1,7 +1,7 @@
 use Rattle.disk_model.specs.declared.name.FileName.TheVariants as file
 use Rattle.disk_model.specs.Disk.{removed, half_removed}
 use Rattle.disk_model.proofs.OtherFileLemmas.{apart_begins, apart_goes_on, apart_fails, apart_fails_still, apart_named}
-use Rattle.store_core.proofs.UnnamedLogLemmas.{removed_gone, removed_others}
+use Rattle.store_core.proofs.UnneededLogLemmas.{removed_gone, removed_others}
 use Rattle.store_core.proofs.store.boxes.remove_log.Goals as goal
 
 pub returns-in_err-remove-clause-any_moment : goal.returns-in_err-remove-clause-any_moment

@@ -1,0 +1,97 @@
+-- Drafts of mailbox logs: the texts of entries, and what a draft means with entries more.
+use Rattle.store_core.proofs.Common.{◌≡◌, ◌≤◌, ◌<◌, ◌+◌, ◌-◌, ℕ, List, [], ◌∷◌, ◌++◌, length, map, take, drop, All, Option, refl, sym, ◌∙◌, ap, subst, arith, append-nil, get_or, length-append, map-append, All-nil, All-cons, All-append, All-head, All-tail, History, IfTold, if_told-map, FileName}
+use Rattle.store_core.proofs.Common.{BoxEntry, box_text, BoxInRange, BoxMeaning, box_applied, box_meaning, row_made, HasItsRecord, MapMeaning, LogState, IsSameLog, Reads, IsLogRead, StoreValue, IsStore, head_of}
+use Rattle.std.proofs.Common.{fold, sum, append_assoc, length-drop}
+use Rattle.std.proofs.Math.Seq.{take-length}
+use Rattle.std.proofs.lemmas.List.{take-append-le, drop-append-le, take_more}
+use Rattle.std.proofs.lemmas.List.Sums.{sum_by-cons, sum_by-append}
+use Rattle.std.specs.List.{AllByRecursion}
+use Rattle.gate_log.specs.Log.{Drafts, IsLogDrafted, cut_by}
+use Rattle.mdbox_base.specs.declared.entries.BoxEntry.TheVariants as entry
+use Rattle.model_appends.proofs.AppendOpenLemmas.{box_more_good, rows_have}
+use Rattle.model_meaning.proofs.BoxLemmas.{box_more}
+use Rattle.model_meaning.specs.BoxMeaning.{BoxFits}
+use Rattle.model_store.specs.Opening.{AreBoxEntries}
+use Rattle.store_core.specs.Drafts.{AllFitBehind, AreTextsOf}
+
+-- ---- the texts of entries
+
+cut-more : (lengths octets : List ℕ) (size : ℕ) (text : List ℕ) → sum lengths ≡ length octets → size ≡ length text → cut_by (lengths ++ size ∷ []) (octets ++ text) ≡ cut_by lengths octets ++ text ∷ []
+cut-more [] [] size text whole e = ap (λ (t : List ℕ). t ∷ []) (ap (λ (n : ℕ). take n text) e ∙ take-length text)
+cut-more [] (o ∷ octets) size text whole e = let h : 0 ≡ length (o ∷ octets) = whole in absurd (omega (arith, h))
+cut-more (n ∷ ns) octets size text whole e =
+    let more : sum (n ∷ ns) ≡ n + sum ns = sum_by-cons (λ x. x) n ns in
+    let within : n ≤ length octets = omega (arith, more, whole) in
+    let rest : length (drop n octets) ≡ length octets - n = length-drop n octets in
+    ap (λ (t : List ℕ). t ∷ cut_by (ns ++ size ∷ []) (drop n (octets ++ text))) (take-append-le n octets text within)
+    ∙ ap (λ (t : List ℕ). take n octets ∷ cut_by (ns ++ size ∷ []) t) (drop-append-le n octets text within)
+    ∙ ap (λ (ts : List (List ℕ)). take n octets ∷ ts) (cut-more ns (drop n octets) size text (omega (arith, more, whole, rest)) e)
+
+sum-more : (lengths : List ℕ) (octets text : List ℕ) → sum lengths ≡ length octets → sum (lengths ++ length text ∷ []) ≡ length (octets ++ text)
+sum-more lengths octets text whole =
+    let s : sum (lengths ++ length text ∷ []) ≡ sum lengths + sum (length text ∷ []) = sum_by-append (λ x. x) lengths (length text ∷ []) in
+    let one : sum (length text ∷ []) ≡ length text + sum [] = sum_by-cons (λ x. x) (length text) [] in
+    let none : sum [] ≡ 0 = refl in
+    omega (arith, s, one, none, whole, length-append octets text)
+
+some_text : (e : BoxEntry) → 1 ≤ length (box_text e)
+some_text (entry.N n) = omega arith
+some_text (entry.A u f t z k g w) = omega arith
+some_text (entry.F u f) = omega arith
+some_text (entry.K u w) = omega arith
+some_text (entry.R u) = omega arith
+
+texts_more : (entries : List BoxEntry) (e : BoxEntry) (octets lengths octets_now lengths_now : List ℕ) → AreTextsOf entries octets lengths → octets_now ≡ octets ++ box_text e → lengths_now ≡ lengths ++ length (box_text e) ∷ [] → AreTextsOf (entries ++ e ∷ []) octets_now lengths_now
+texts_more entries e octets lengths octets_now lengths_now t o l =
+    subst (λ (os : List ℕ). AreTextsOf (entries ++ e ∷ []) os lengths_now) (sym o)
+    (subst (λ (ls : List ℕ). AreTextsOf (entries ++ e ∷ []) (octets ++ box_text e) ls) (sym l)
+    (record {
+      cut = cut-more lengths octets (length (box_text e)) (box_text e) t.whole refl ∙ ap (λ (ts : List (List ℕ)). ts ++ box_text e ∷ []) t.cut ∙ sym (map-append box_text entries (e ∷ []));
+      whole = sum-more lengths octets (box_text e) t.whole;
+      some = All-append (λ (n : ℕ). 1 ≤ n) lengths (length (box_text e) ∷ []) t.some (All-cons (λ (n : ℕ). 1 ≤ n) (length (box_text e)) [] (some_text e) (All-nil (λ (n : ℕ). 1 ≤ n)));
+      many = let a = length-append lengths (length (box_text e) ∷ []) in let b = length-append entries (e ∷ []) in let c = t.many in omega (arith, a, b, c);
+    }))
+
+pub texts_step : (entries : List BoxEntry) (i : ℕ) (e : BoxEntry) (octets lengths octets_now lengths_now : List ℕ) → i < length entries → e ≡ get_or entries i e → AreTextsOf (take i entries) octets lengths → octets_now ≡ octets ++ box_text e
+    → lengths_now ≡ lengths ++ length (box_text e) ∷ [] → AreTextsOf (take (i + 1) entries) octets_now lengths_now
+texts_step entries i e octets lengths octets_now lengths_now below is t o l =
+    let more : take (i + 1) entries ≡ take i entries ++ e ∷ [] = take_more entries i e below ∙ ap (λ (x : BoxEntry). take i entries ++ x ∷ []) (sym is) in
+    subst (λ (es : List BoxEntry). AreTextsOf es octets_now lengths_now) (sym more) (texts_more (take i entries) e octets lengths octets_now lengths_now t o l)
+
+-- ---- what a draft means with entries more
+
+-- the entries, and what they mean
+pub record Extended (m : MapMeaning) (before entries : List BoxEntry) : Type 0 where
+  pub good : AreBoxEntries (before ++ entries)
+  pub means : fold (λ n e. box_applied e n) (box_meaning before) entries ≡ box_meaning (before ++ entries)
+  pub records : All (HasItsRecord m) (box_meaning (before ++ entries)).rows
+
+pub extended : (m : MapMeaning) (before entries : List BoxEntry) → AreBoxEntries before → AllByRecursion BoxInRange entries → AllFitBehind (box_meaning before) entries → All (HasItsRecord m) (box_meaning before).rows → All (λ e. All (HasItsRecord m) (row_made e)) entries
+    → Extended m before entries
+extended m before [] good in_range fit records made =
+    let same : before ++ [] ≡ before = append-nil before in
+    record {
+      good = subst AreBoxEntries (sym same) good;
+      means = ap box_meaning (sym same);
+      records = subst (λ (es : List BoxEntry). All (HasItsRecord m) (box_meaning es).rows) (sym same) records;
+    }
+extended m before (e ∷ es) good in_range fit records made =
+    let one : (before ++ e ∷ []) ++ es ≡ before ++ e ∷ es = append_assoc before (e ∷ []) es in
+    let more : box_meaning (before ++ e ∷ []) ≡ box_applied e (box_meaning before) = box_more before e in
+    let rest : Extended m (before ++ e ∷ []) es =
+    extended m (before ++ e ∷ []) es (box_more_good e in_range.0 before fit.0 good) in_range.1 (subst (λ (n : BoxMeaning). AllFitBehind n es) (sym more) fit.1)
+    (rows_have m e (All-head (λ (x : BoxEntry). All (HasItsRecord m) (row_made x)) e es made) before fit.0 records) (All-tail (λ (x : BoxEntry). All (HasItsRecord m) (row_made x)) e es made) in
+    record {
+      good = subst AreBoxEntries one rest.good;
+      means = ap (λ (n : BoxMeaning). fold (λ x y. box_applied y x) n es) (sym more) ∙ rest.means ∙ ap box_meaning one;
+      records = subst (λ (xs : List BoxEntry). All (HasItsRecord m) (box_meaning xs).rows) one rest.records;
+    }
+
+-- a draft that is read can be extended
+pub read_draft : (log : LogState) (texts : List (List ℕ)) (h : Option History) → Drafts log texts h → Reads log texts h
+read_draft log texts h d = if_told-map (IsLogDrafted log texts) (IsLogRead log texts) h (λ disk l. l.reads) d
+
+-- the room of a log is of no account
+pub roomier_draft : (log : LogState) (room : ℕ) (texts : List (List ℕ)) (h : Option History) → Drafts log texts h → Drafts (record log { room = room }) texts h
+roomier_draft log room texts h d = if_told-map (IsLogDrafted log texts) (IsLogDrafted (record log { room = room }) texts) h
+    (λ disk l. record { reads = record { file = l.reads.file; end = l.reads.end; count = l.reads.count; head_fits = l.reads.head_fits; entries_fit = l.reads.entries_fit }; named = l.named; are_octets = l.are_octets }) d
