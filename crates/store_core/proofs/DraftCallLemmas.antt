@@ -1,14 +1,14 @@
 -- A store that makes or extends a draft of a mailbox log, by what the calls have at hand.
 use Rattle.store_core.proofs.Common.{◌≡◌, ◌≢◌, ◌<◌, ◌≤◌, ℕ, false, List, [], ◌∷◌, ◌++◌, map, Option, All, refl, sym, ◌∙◌, ap, subst, arith, All-nil, All-weaker, map-append, History, SameButFor, Highest, BoxEntry, box_text, BoxInRange, BoxMeaning, box_applied, box_meaning, row_made}
 use Rattle.store_core.proofs.Common.{HasItsRecord, LogState, Holds, MapBox, MapMeaning, LogHead, head_of, OthersAreNamed, KeepsMadeLogs, has_made_log, StoreValue, OpenBox}
-use Rattle.std.proofs.Common.{fold}
+use Rattle.std.proofs.Common.{fold, Result, Ok, Err, OnOk}
 use Rattle.std.specs.List.{AllByRecursion}
 use Rattle.std.specs.Prelude.{max}
 use Rattle.disk_model.specs.declared.name.FileName.TheVariants as file
 use Rattle.gate_log.specs.Log.{Drafts}
 use Rattle.gate_log.proofs.DraftLemmas.{held_draft}
 use Rattle.model_logs.specs.declared.log_head.LogKind.TheVariants as kind
-use Rattle.store_core.specs.Drafts.{AllFitBehind, BoxDraftValue, IsBoxDraft, IsNewer, IsOutOfForce}
+use Rattle.store_core.specs.Drafts.{AllFitBehind, BoxDraftValue, IsBoxDraft, IsHeldDraft, IsNewer, IsOutOfForce}
 use Rattle.store_core.proofs.DraftLemmas.{extended, roomier_draft}
 use Rattle.store_core.proofs.MadeLogLemmas.{apart_from_made, held_beside, held_named, made_kept, no_less, none_has}
 
@@ -78,3 +78,33 @@ draft_extended old new v w draft later entries d in_range fit made map_same draw
 -- the same draft of the store as its value is seen
 pub draft_seen : {D : Type 0} → (H : D → Option History) (v now : StoreValue D) (draft seen : BoxDraftValue) → v ≡ now → draft ≡ seen → IsBoxDraft (H now.disk) seen now → IsBoxDraft (H v.disk) draft v
 draft_seen H v now draft seen is same d = subst (λ (x : StoreValue _). IsBoxDraft (H x.disk) draft x) (sym is) (subst (λ (x : BoxDraftValue). IsBoxDraft (H now.disk) x now) (sym same) d)
+
+-- a draft that was synced
+pub draft_settled : {D : Type 0} → (old new : Option History) (v w : StoreValue D) (draft : BoxDraftValue) → (d : IsBoxDraft old draft v) → w.map ≡ v.map → w.drawn ≡ v.drawn → w.made ≡ v.made → ((texts : List (List ℕ)) → Drafts draft.log texts old → Holds draft.log texts new) → IsHeldDraft new draft w
+draft_settled old new v w draft d map_same drawn made_same hold =
+    let held : Holds draft.log (map box_text d.entries) new = hold (map box_text d.entries) d.reads in
+    record {
+      drafted = record {
+        entries = d.entries;
+        good = d.good;
+        means = d.means;
+        name = d.name;
+        head = d.head ∙ ap (λ (m : MapMeaning). head_of m.store kind.Box draft.number.0 draft.generation) (sym map_same);
+        reads = held_draft draft.log (map box_text d.entries) new held;
+        records = subst (λ (m : MapMeaning). All (HasItsRecord m) draft.index.meaning.rows) (sym map_same) d.records;
+        newer = newer_as v w draft.number.0 draft.generation map_same drawn made_same d.newer;
+      };
+      held = held;
+    }
+
+pub held_seen : {D : Type 0} → (h : Option History) (w : StoreValue D) (draft seen : BoxDraftValue) → draft ≡ seen → IsHeldDraft h draft w → IsHeldDraft h seen w
+held_seen h w draft seen is d = subst (λ (x : BoxDraftValue). IsHeldDraft h x w) is d
+
+-- ---- by what the call answers
+
+pub none_ok : {T E : Type 0} → (r : Result T E) (e : E) (P : Type 0) → r ≡ Err e → OnOk r P
+none_ok r e P is = subst (λ (x : Result _ _). OnOk x P) (sym is) tt
+
+pub draft_ok : {D T E : Type 0} → (H : D → Option History) (s w : StoreValue D) (draft : BoxDraftValue) (r : Result T E) (x : T) → r ≡ Ok x → s ≡ w → IsBoxDraft (H w.disk) draft w → OnOk r (IsBoxDraft (H s.disk) draft s)
+draft_ok H s w draft r x is same d =
+    subst (λ (y : Result _ _). OnOk y (IsBoxDraft (H s.disk) draft s)) (sym is) (subst (λ (y : StoreValue _). IsBoxDraft (H y.disk) draft y) (sym same) d)

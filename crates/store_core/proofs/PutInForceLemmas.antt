@@ -2,9 +2,10 @@
 use Rattle.store_core.proofs.Common.{◌⊎◌, inl, inr, ◌≡◌, ◌≢◌, ◌<◌, ◌≤◌, ◌+◌, ◌-◌, ◌==◌, ℕ, Bool, true, false, if◌then◌else◌, List, [], ◌∷◌, ◌++◌, map, find, length, slice_set, slice_index_or, Option, Some, None, All, refl, sym, ◌∙◌, ap, subst, arith, map-append, All-nil, All-head, All-tail, All-weaker, All-contains, sum_by, count_by}
 use Rattle.store_core.proofs.Common.{Files, DiskState, History, IfTold, IsImage, SameButFor, reading, FileName, if_told-map, LogState, IsSameLog, IsLogHeld, IsLogRead, Reads, Holds, BoxEntry, MapEntry, BoxNo, HasOneMore, Lists, box_text, map_text, MapInRange, IsLogFile, LogHead, map_more, BoxMeaning, box_meaning, rows_after, MapFits}
 use Rattle.store_core.proofs.Common.{MapRecord, MapBox, MapMeaning, map_meaning, map_applied, map_same, root_same, AreGoodLogs, Opens, IsCounted, HasItsRecord, SafeBy, files_of, IsSettled, IsSettledFor, Leaves, HasBox, AddsText, LiesBelowEnd, AreBoxLogs, ReadBoxLogs, IsRunning, CoverDues, IsUpTo, IsStore, StoreValue, indexes_of}
-use Rattle.store_core.proofs.Common.{OpenBox, listed_of, number_beside, due_at, leak_at, listed_at, list_numbered, head_of, equal_is, meaning_numbered, Highest}
+use Rattle.store_core.proofs.Common.{OpenBox, listed_of, number_beside, due_at, leak_at, listed_at, list_numbered, head_of, equal_is, meaning_numbered, Highest, HasEntryRoom, entry_room}
 use Rattle.std.specs.Prelude.{IsTrue, is_some, slice_get}
 use Rattle.std.specs.Option.{option_map}
+use Rattle.std.proofs.lemmas.List.Elements.{All-set}
 use Rattle.disk_model.specs.declared.name.FileName.TheVariants as file
 use Rattle.mdbox_base.specs.declared.entries.MapEntry.TheVariants as entry
 use Rattle.model_appends.specs.MapAppending.{IsMapAppend}
@@ -37,7 +38,7 @@ use Rattle.store_core.proofs.MapAppendLemmas.{boxes_read}
 use Rattle.store_core.proofs.MapCrashLemmas.{held_map}
 use Rattle.store_core.proofs.NamingLemmas.{Appends, leaves_by, settled_by}
 use Rattle.store_core.proofs.PickingLemmas.{reads_other}
-use Rattle.store_core.proofs.ReplacedLogLemmas.{covered_counted, logs_set, meanings_are, meanings_set, read_set, refs_counted}
+use Rattle.store_core.proofs.ReplacedLogLemmas.{covered_counted, found_set, logs_set, meanings_are, meanings_set, read_set, refs_counted}
 use Rattle.store_core.proofs.UnneededLogLemmas.{map_known}
 
 -- the entry that names a draft
@@ -359,3 +360,36 @@ read_then h v draft b place c = (map map_text c.store.entries, (c.store.running 
 -- the entry that the code makes
 pub in_range_then : {D : Type 0} → (h : Option History) (v : StoreValue D) (draft : BoxDraftValue) (b : OpenBox) (place : ℕ) → CanSwitch h v draft b place → MapInRange (switching draft)
 in_range_then h v draft b place c = in_range_there v draft c.draft_held.drafted.newer
+
+-- the open log of the mailbox is the draft's
+pub log_then : {D : Type 0} → (h : Option History) (v : StoreValue D) (draft : BoxDraftValue) (b : OpenBox) (place : ℕ) → CanSwitch h v draft b place → option_map (λ o. o.log) (find (λ o. o.number.0 == draft.number.0) (slice_set v.boxes place b)) ≡ Some draft.log
+log_then h v draft b place c =
+    ap (option_map (λ (o : OpenBox). o.log)) (found_set v.map.store draft.number.0 place b b v.map.boxes v.boxes (store_sound h v c.store).boxes_rising c.store.box_logs c.below c.at (ap (λ (n : BoxNo). n.0) c.number)) ∙ ap Some c.log
+
+-- its log has room too
+pub room_then : {D : Type 0} → (v w : StoreValue D) (b : OpenBox) (place : ℕ) → HasEntryRoom v → w.map_log.room ≡ v.map_log.room → w.boxes ≡ slice_set v.boxes place b → entry_room ≤ b.log.room → HasEntryRoom w
+room_then v w b place r same boxes room = record {
+  map_log = let a : entry_room ≤ v.map_log.room = r.map_log in omega (arith, a, same);
+  box_logs = subst (λ (bs : List OpenBox). All (λ (o : OpenBox). entry_room ≤ o.log.room) bs) (sym boxes) (All-set (λ (o : OpenBox). entry_room ≤ o.log.room) v.boxes place b room r.box_logs);
+}
+
+-- the map as the code has it
+pub store_put : {D : Type 0} → (old new : Option History) (v : StoreValue D) (disk : D) (draft : BoxDraftValue) (b : OpenBox) (place : ℕ) (log : LogState) (m : MapMeaning) → CanSwitch old v draft b place → m ≡ map_applied (switching draft) v.map → IsSameLog v.map_log log
+    → SameButFor v.map_log.name old new → ((texts : List (List ℕ)) → Reads v.map_log texts old → Reads log (texts ++ map_text (switching draft) ∷ []) new) → IsStore new (record v { disk = disk; map_log = log; map = m; boxes = slice_set v.boxes place b })
+store_put old new v disk draft b place log m c applied same others added =
+    subst (λ (x : MapMeaning). IsStore new (record v { disk = disk; map_log = log; map = x; boxes = slice_set v.boxes place b })) (sym applied) (store_then old new v disk draft b place log c same others added)
+
+-- by what a caller sees of the store and of the draft
+pub leaves_seen : {D : Type 0} → (H : D → Option History) (v now : StoreValue D) (draft seen : BoxDraftValue) (new : Option History) → v ≡ now → draft ≡ seen
+    → ((lists after : Lists) → GivesLists draft v (H v.disk) lists after → IsSettledFor lists (H v.disk) → Leaves lists after (H v.disk) new)
+    → (lists after : Lists) → GivesLists seen now (H now.disk) lists after → IsSettledFor lists (H now.disk) → Leaves lists after (H now.disk) new
+leaves_seen H v now draft seen new is same left =
+    subst (λ (d : BoxDraftValue). (lists after : Lists) → GivesLists d now (H now.disk) lists after → IsSettledFor lists (H now.disk) → Leaves lists after (H now.disk) new) same
+    (subst (λ (x : StoreValue _). (lists after : Lists) → GivesLists draft x (H x.disk) lists after → IsSettledFor lists (H x.disk) → Leaves lists after (H x.disk) new) is left)
+
+pub settled_seen : {D : Type 0} → (H : D → Option History) (v now : StoreValue D) (draft seen : BoxDraftValue) (new : Option History) → v ≡ now → draft ≡ seen
+    → ((lists after : Lists) → GivesLists draft v (H v.disk) lists after → IsSettledFor lists (H v.disk) → IsSettledFor after new)
+    → (lists after : Lists) → GivesLists seen now (H now.disk) lists after → IsSettledFor lists (H now.disk) → IsSettledFor after new
+settled_seen H v now draft seen new is same settles =
+    subst (λ (d : BoxDraftValue). (lists after : Lists) → GivesLists d now (H now.disk) lists after → IsSettledFor lists (H now.disk) → IsSettledFor after new) same
+    (subst (λ (x : StoreValue _). (lists after : Lists) → GivesLists draft x (H x.disk) lists after → IsSettledFor lists (H x.disk) → IsSettledFor after new) is settles)

@@ -1,12 +1,13 @@
 -- Mailboxes of which one has another log, in a new generation: their open logs, what these mean, and how often messages are listed.
 use Rattle.store_core.proofs.Common.{◌≡◌, ◌≢◌, ◌<◌, ◌≤◌, ◌==◌, ℕ, Bool, true, false, zero, suc, if◌then◌else◌, List, [], ◌∷◌, map, length, slice_set, slice_index_or, find, Option, Some, None, All, AllPairs, refl, sym, ◌∙◌, ap, subst, arith, All-head, All-tail, All-weaker, Files, History, FileName}
-use Rattle.store_core.proofs.Common.{BoxEntry, MapEntry, BoxNo, Lists, box_text, BoxMeaning, box_meaning, rows_after, MapBox, MapRecord, MapMeaning, HasItsRecord, IsCounted, Opens, listed_of, Reads, map_meaning, All-cons, All-contains, bytes_eq, head_of, HasBox, equal_is, pairs_head, pairs_tail, AreBoxLogs, ReadBoxLogs, CoverDues, OpenBox, indexes_of}
+use Rattle.store_core.proofs.Common.{BoxEntry, MapEntry, BoxNo, Lists, box_text, BoxMeaning, box_meaning, rows_after, MapBox, MapRecord, MapMeaning, HasItsRecord, IsCounted, Opens, listed_of, Reads, map_meaning, All-cons, All-contains, bytes_eq, head_of, HasBox, equal_is, pairs_head, pairs_tail, cond-true, cond-false, map_applied, IsUnnamed, AreBoxLogs, ReadBoxLogs, CoverDues, OpenBox, indexes_of}
 use Rattle.std.specs.Option.{option_map_or}
 use Rattle.std.proofs.lemmas.Bool.{eq-eqb, ne_eqb}
 use Rattle.disk_model.specs.declared.name.FileName.TheVariants as file
 use Rattle.mdbox_base.specs.declared.entries.MapEntry.TheVariants as entry
 use Rattle.model_lists.specs.Lists.{Mailbox, refs_of, ListedMessage}
 use Rattle.model_logs.specs.declared.log_head.LogKind.TheVariants as kind
+use Rattle.model_meaning.proofs.AppliedLemmas.{boxes_by_generation}
 use Rattle.model_meaning.specs.BoxMeaning.{next_after}
 use Rattle.model_meaning.specs.MapMeaning.{box_at, box_changed, count_of, record_of}
 use Rattle.model_meaning.specs.Sound.{IsSoundMap}
@@ -114,6 +115,32 @@ read_set store k (suc place) d b log h (m ∷ ms) (o ∷ os) (l ∷ ls) rising a
     let later = number_later store k place d ms os m (pairs_head Rising m ms rising) a.3 (omega (arith, below)) is in
     subst (λ (t : Bool). ReadBoxLogs h (o ∷ slice_set os place b) ((if t then log else l) ∷ log_switched k log ms ls)) (sym (ne_eqb k m.number (λ (e : k ≡ m.number). omega (arith, later, e))))
     (r.0, read_set store k place d b log h ms os ls (pairs_tail Rising m ms rising) a.3 (omega (arith, below)) is reads r.1)
+
+-- the open log is found by its number
+pub found_set : (store : List ℕ) (k place : ℕ) (d b : OpenBox) (mailboxes : List MapBox) (boxes : List OpenBox) → AllPairs Rising mailboxes → AreBoxLogs store mailboxes boxes → place < length boxes → (slice_index_or boxes place d).number.0 ≡ k → b.number.0 ≡ k
+    → find (λ o. o.number.0 == k) (slice_set boxes place b) ≡ Some b
+found_set store k place d b [] [] rising a below is number = absurd (omega (arith, below))
+found_set store k place d b [] (o ∷ os) rising a below is number = absurd a
+found_set store k place d b (m ∷ ms) [] rising a below is number = absurd a
+found_set store k zero d b (m ∷ ms) (o ∷ os) rising a below is number = cond-true (b.number.0 == k) (Some b) (find (λ (x : OpenBox). x.number.0 == k) os) (eq-eqb b.number.0 k number)
+found_set store k (suc place) d b (m ∷ ms) (o ∷ os) rising a below is number =
+    let later = number_later store k place d ms os m (pairs_head Rising m ms rising) a.3 (omega (arith, below)) is in
+    let own : o.number.0 ≡ m.number = a.0 in
+    cond-false (o.number.0 == k) (Some o) (find (λ (x : OpenBox). x.number.0 == k) (slice_set os place b)) (ne_eqb o.number.0 k (λ (e : o.number.0 ≡ k). omega (arith, later, own, e)))
+    ∙ found_set store k place d b ms os (pairs_tail Rising m ms rising) a.3 (omega (arith, below)) is number
+
+-- no mailbox has another number
+unnamed_each : (k : BoxNo) (g n : ℕ) (boxes : List MapBox) → All (λ b. b.number ≢ n) boxes → All (λ b. b.number ≢ n) (changed_boxes k g boxes)
+unnamed_each k g n [] none = none
+unnamed_each k g n (b ∷ bs) none =
+    All-cons (λ (c : MapBox). c.number ≢ n) (box_changed (entry.G k g) b) (changed_boxes k g bs) (one (k.0 == b.number)) (unnamed_each k g n bs (All-tail (λ (c : MapBox). c.number ≢ n) b bs none))
+  where
+    one : (t : Bool) → (if t then record b { generation = g } else b).number ≢ n
+    one true = All-head (λ (c : MapBox). c.number ≢ n) b bs none
+    one false = All-head (λ (c : MapBox). c.number ≢ n) b bs none
+
+pub unnamed_then : (k : BoxNo) (g n : ℕ) (m : MapMeaning) → IsUnnamed n m → IsUnnamed n (map_applied (entry.G k g) m)
+unnamed_then k g n m none = subst (λ (bs : List MapBox). All (λ (b : MapBox). b.number ≢ n) bs) (sym (boxes_by_generation k g m.boxes)) (unnamed_each k g n m.boxes none)
 
 -- ---- the counts
 

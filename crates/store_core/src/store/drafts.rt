@@ -1,15 +1,16 @@
 // Drafts of mailbox logs: made beside the log in force, extended, and put in its place.
-ghost use Rattle.std.specs.Prelude.{◌≡◌, ◌↔◌, ◌≤◌, ◌+◌, ◌-◌, ◌==◌, [], ℕ, List, All, Some, find, fold, is_some, length, IfOk, IsErr, IsTrue, OnOk, IsErrOf, true, false};
+ghost use Rattle.std.specs.Prelude.{◌≡◌, ◌↔◌, ◌≤◌, ◌+◌, ◌-◌, ◌==◌, ◌++◌, ◌∷◌, [], ℕ, List, All, Some, find, fold, is_some, length, IfOk, IsErr, IsTrue, OnOk, IsErrOf, true, false};
 ghost use Rattle.std.specs.List.{AllByRecursion};
 ghost use Rattle.std.specs.Option.{option_map};
-ghost use Rattle.disk_model.specs.Disk.{Between, Grows, IfTold, SameButFor, no_file};
+ghost use Rattle.disk_model.specs.Disk.{Between, EachImage, Grows, IfTold, OthersStay, SameButFor, no_file};
 ghost use Rattle.disk_model.specs.FaultCounts.{NoFault, ChangeFaultCounted};
 ghost use Rattle.disk_model.specs.declared.name.FileName.TheVariants as file;
-ghost use Rattle.gate_log.specs.Log.{NamedButFor};
+ghost use Rattle.gate_log.specs.Log.{Holds, NamedButFor, Reads};
+ghost use Rattle.gate_log.specs.State.{IsSameLog};
 ghost use Rattle.mdbox_base.specs.declared.entries.MapEntry.TheVariants as map_entry;
 ghost use Rattle.model_kept.specs.Kept.{MailIsKept};
 ghost use Rattle.model_lists.specs.Lists.{ListedMessage, Lists};
-ghost use Rattle.model_logs.specs.Entries.{BoxInRange};
+ghost use Rattle.model_logs.specs.Entries.{BoxInRange, map_text};
 ghost use Rattle.model_meaning.specs.BoxMeaning.{box_applied, box_meaning, row_made};
 ghost use Rattle.model_meaning.specs.MapMeaning.{MapBox, MapMeaning, box_at, map_applied};
 ghost use Rattle.model_meaning.specs.MapFits.{MapFits};
@@ -17,10 +18,11 @@ ghost use Rattle.model_meaning.specs.SameMeaning.{MeansSame};
 ghost use Rattle.model_rewritten.specs.Switched.{list_switched};
 ghost use Rattle.model_store.specs.Opening.{HasItsRecord};
 ghost use Rattle.model_store.specs.Settled.{IsSettledFor, Leaves};
+ghost use Rattle.store_core.specs.Append.{AddsText};
 ghost use Rattle.store_core.specs.Drafts.{AllFitBehind, AreNamedButFor, GivesLists, IsBoxDraft, IsHeldDraft, IsNewer, IsOutOfForce, ListsMessages, listed_with, meanings_with};
 ghost use Rattle.store_core.specs.Dues.{KeepsStored, due_at, leak_at, listed_at};
 ghost use Rattle.store_core.specs.MadeLogs.{has_made_log};
-ghost use Rattle.store_core.specs.Value.{indexes_of, list_numbered};
+ghost use Rattle.store_core.specs.Value.{entry_room, indexes_of, list_numbered};
 ghost use Rattle.store_core.specs.declared.error.StepError.TheVariants as step_error;
 
 use super::append_map::append_entry;
@@ -31,7 +33,7 @@ use crate::box_draft::{BoxDraft, extend_in};
 use crate::error::StepError;
 use box_index::BoxIndex;
 use disk_model::Disk;
-use gate_log::{DiskFault, LogRoom};
+use gate_log::{DiskFault, GateLog, LogRoom};
 use map_index::MapIndex;
 use mdbox_base::{BoxEntry, BoxNo, MapEntry, NoMemory, Seq};
 
@@ -245,14 +247,10 @@ impl<D: Disk> Store<D> {
         let Some(place) = place_of(&self.boxes, mailbox) else {
             unreachable!()
         };
-        let entry = MapEntry::G {
-            mailbox,
-            generation,
-        };
-        match append_entry(&mut self.map_log, &mut self.disk, &entry, None) {
+        match append_generation(&mut self.map_log, &mut self.disk, mailbox, generation) {
             Ok(()) => {
                 self.boxes[place] = open_box;
-                apply_generation(&mut self.map, &entry);
+                apply_generation(&mut self.map, mailbox, generation);
                 Ok(())
             }
             Err(DiskFault) => {
@@ -289,13 +287,42 @@ impl<D: Disk> Store<D> {
     }
 }
 
-/// Takes in the entry of a new generation that fits.
-fn apply_generation(map: &mut MapIndex, entry: &MapEntry)
-    requires kind { (mailbox : BoxNo) × (generation : ℕ) × (entry.now ≡ map_entry.G mailbox generation) }
-    requires fits { MapFits map.old.meaning entry.now }
-    ensures { map.new.meaning ≡ map_applied entry.now map.old.meaning }
+/// Adds an entry to the map log that names a new generation of a mailbox's log.
+fn append_generation<D: Disk>(
+    log: &mut GateLog,
+    disk: &mut D,
+    mailbox: BoxNo,
+    generation: u32,
+) -> Result<(), DiskFault>
+    requires read { (entries : List (List ℕ)) × Reads log.old entries (D.history disk.old) }
+    requires room { entry_room ≤ log.old.room }
+    ensures any_moment { AddsText log.old (map_text (map_entry.G mailbox generation)) (D.history disk.old) (D.history disk.new) }
+    ensures others_stay { EachImage (λ _ image. OthersStay log.old.name (D.history disk.old) image) (D.history disk.old) (D.history disk.new) }
+    ensures grows { Grows (D.history disk.old) (D.history disk.new) }
+    ensures added { OnOk result ((entries : List (List ℕ)) → Reads log.old entries (D.history disk.old) → Reads log.new (entries ++ map_text (map_entry.G mailbox generation) ∷ []) (D.history disk.new)) }
+    ensures held { OnOk result ((entries : List (List ℕ)) → Holds log.old entries (D.history disk.old) → Holds log.new (entries ++ map_text (map_entry.G mailbox generation) ∷ []) (D.history disk.new)) }
+    ensures others { OnOk result (SameButFor log.old.name (D.history disk.old) (D.history disk.new)) }
+    ensures fault { ChangeFaultCounted (IsErr result) (D.faults disk.old) (D.faults disk.new) }
+    ensures unfailed { OnOk result (NoFault (D.faults disk.old) (D.faults disk.new)) }
+    ensures log { IsSameLog log.old log.new }
 {
-    match map.apply(entry) {
+    let entry = MapEntry::G {
+        mailbox,
+        generation,
+    };
+    append_entry(log, disk, &entry, None)
+}
+
+/// Takes in the entry of a new generation that fits.
+fn apply_generation(map: &mut MapIndex, mailbox: BoxNo, generation: u32)
+    requires { MapFits map.old.meaning (map_entry.G mailbox generation) }
+    ensures { map.new.meaning ≡ map_applied (map_entry.G mailbox generation) map.old.meaning }
+{
+    let entry = MapEntry::G {
+        mailbox,
+        generation,
+    };
+    match map.apply(&entry) {
         Ok(()) => {}
         Err(NoMemory) => unreachable!(),
     }
