@@ -1,23 +1,25 @@
 -- A switch to a draft in three steps: its sync, the entry that names it, and the removal of the old log.
 use Rattle.store_core.proofs.Common.{◌⊎◌, inl, inr, ◌≡◌, ◌≢◌, ◌<◌, ◌≤◌, ◌+◌, ◌-◌, ◌==◌, ℕ, Bool, true, false, if◌then◌else◌, List, [], ◌∷◌, map, find, Option, Some, None, All, refl, sym, ◌∙◌, ap, subst, arith, All-head, All-tail, All-cons, All-nil, All-weaker, All-contains, sum_by, count_by, sum_by-cons}
 use Rattle.store_core.proofs.Common.{Files, DiskState, History, IfTold, Between, between-on, SameButFor, FileName, named, each_image-map, OthersAreNamed, BoxEntry, BoxNo, Lists, LogRow, BoxMeaning, rows_after, MapBox, MapRecord, MapMeaning, map_applied, HasItsRecord, IsAccounted, Safe, files_of, Leaves, KeepsStored, StoresMessage}
-use Rattle.store_core.proofs.Common.{IsStore, StoreValue, listed_of, number_beside, due_at, leak_at, listed_at, equal_is, ne_eqb, eq-eqb, bit}
+use Rattle.store_core.proofs.Common.{IsStore, StoreValue, OpenBox, slice_set, indexes_of, list_numbered, no_file, NamedButFor, option_map, listed_of, number_beside, due_at, leak_at, listed_at, equal_is, ne_eqb, eq-eqb, bit}
 use Rattle.std.specs.List.{AllByRecursion}
 use Rattle.disk_model.proofs.BetweenLemmas.{between-then}
 use Rattle.disk_model.proofs.MomentLemmas.{each_image-then}
 use Rattle.disk_model.specs.declared.name.FileName.TheVariants as file
 use Rattle.mdbox_base.specs.declared.entries.MapEntry.TheVariants as entry
 use Rattle.model_lists.specs.Lists.{ListedMessage}
-use Rattle.model_meaning.proofs.AppliedLemmas.{boxes_by_generation}
+use Rattle.model_meaning.proofs.AppliedLemmas.{boxes_by_generation, records_by_generation}
 use Rattle.model_meaning.specs.MapMeaning.{box_at, box_changed}
 use Rattle.model_store.specs.Stands.{AreListed, IsListed}
-use Rattle.store_core.specs.Drafts.{AreNamedButFor, BoxDraftValue, IsHeldDraft, IsOutOfForce, ListsMessages, listed_with}
+use Rattle.store_core.specs.Drafts.{AreNamedButFor, BoxDraftValue, GivesLists, IsHeldDraft, IsNewer, IsOutOfForce, ListsMessages, listed_with}
 use Rattle.store_core.proofs.BoxAppendLemmas.{store_sound}
 use Rattle.store_core.proofs.DueLemmas.{store_counts}
 use Rattle.store_core.proofs.MapAppendLemmas.{listed_there}
 use Rattle.store_core.proofs.MapDueLemmas.{leak_is, no_leak}
-use Rattle.model_rewritten.specs.Switched.{log_switched}
-use Rattle.store_core.proofs.PutInForceLemmas.{listed_then}
+use Rattle.model_rewritten.specs.Switched.{list_switched, log_switched}
+use Rattle.store_core.proofs.PutInForceLemmas.{CanSwitch, indexes_then, listed_then, switching}
+use Rattle.store_core.proofs.UnneededLogLemmas.{named_but}
+use Rattle.model_octets.proofs.SearchLemmas.{found_one}
 
 -- ---- what crashes leave
 
@@ -129,3 +131,62 @@ leak_with h v w draft uid s d records dues listed enough =
   where
     later : List (List BoxEntry)
     later = log_switched draft.number.0 d.drafted.entries v.map.boxes s.logs
+
+-- where the draft is in force
+pub leak_then : {D : Type 0} → (H : D → Option History) (v now w : StoreValue D) (draft seen : BoxDraftValue) (b : OpenBox) (place uid : ℕ) → v ≡ now → draft ≡ seen → CanSwitch (H v.disk) v draft b place → w.map ≡ map_applied (switching draft) v.map → w.dues ≡ v.dues
+    → w.boxes ≡ slice_set v.boxes place b → leak_at uid w ≡ leak_at uid now + listed_at uid now - listed_with seen uid now
+leak_then H v now w draft seen b place uid is same c applied dues boxes =
+    subst (λ (d : BoxDraftValue). leak_at uid w ≡ leak_at uid now + listed_at uid now - listed_with d uid now) same
+    (subst (λ (x : StoreValue _). leak_at uid w ≡ leak_at uid x + listed_at uid x - listed_with draft uid x) is
+    (leak_with (H v.disk) v w draft uid c.store c.draft_held (ap (λ (m : MapMeaning). m.records) applied ∙ records_by_generation draft.number draft.generation v.map.records) dues
+    (ap (λ (bs : List OpenBox). sum_by (λ m. count_by (λ row. row.map_uid == uid) m.rows) (indexes_of bs)) boxes ∙ ap (λ (ms : List BoxMeaning). sum_by (λ m. count_by (λ row. row.map_uid == uid) m.rows) ms) (indexes_then (H v.disk) v draft b place c)) c.counts))
+
+-- ---- from step to step
+
+-- the store is as it was, but for its disk
+abbrev IsAsBefore : {D : Type 0} → StoreValue D → StoreValue D → Type 0
+IsAsBefore v w = w ≡ record v { disk = w.disk; stopped = w.stopped }
+
+pub gives_messages : {D : Type 0} → (H : D → Option History) (v w : StoreValue D) (draft : BoxDraftValue) (messages : List ListedMessage) (lists : Lists) → IsAsBefore v w → KeepsStored (H v.disk) (H w.disk) → ListsMessages draft v.map messages (H v.disk)
+    → GivesLists draft w (H w.disk) lists (list_switched draft.number.0 draft.index.meaning.next messages lists)
+gives_messages H v w draft messages lists same keeps listed =
+    inl (messages, messages_kept draft w.map messages (H v.disk) (H w.disk) keeps (subst (λ (m : MapMeaning). ListsMessages draft m messages (H v.disk)) (sym (ap (λ (x : StoreValue _). x.map) same)) listed), refl)
+
+pub gives_same : {D : Type 0} → (H : D → Option History) (v w : StoreValue D) (draft : BoxDraftValue) (lists : Lists) → IsAsBefore v w → list_numbered v draft.number.0 ≡ Some draft.index.meaning → GivesLists draft w (H w.disk) lists lists
+gives_same H v w draft lists same means = inr (ap (λ (x : StoreValue _). list_numbered x draft.number.0) same ∙ means, refl)
+
+-- the generation of the log in force is an earlier one
+pub old_generation : {D : Type 0} → (v : StoreValue D) (draft : BoxDraftValue) (generation : ℕ) → IsNewer draft.number.0 draft.generation v → Some generation ≡ option_map (λ b. b.generation) (box_at v.map draft.number.0) → generation < draft.generation
+old_generation v draft generation newer is = by_box (box_at v.map draft.number.0) refl is
+  where
+    by_box : (o : Option MapBox) → box_at v.map draft.number.0 ≡ o → Some generation ≡ option_map (λ b. b.generation) o → generation < draft.generation
+    by_box None found e = absurd (cc e)
+    by_box (Some box) found e =
+        let there = found_one (λ (b : MapBox). b.number == draft.number.0) v.map.boxes box found in
+        let less : box.generation < draft.generation = All-contains (λ (b : MapBox). b.number ≡ draft.number.0 → b.generation < draft.generation) v.map.boxes box newer.later there.0 (equal_is box.number draft.number.0 there.1) in
+        let same : generation ≡ box.generation = cc e in
+        omega (arith, less, same)
+
+pub old_out : {D : Type 0} → (v w : StoreValue D) (draft : BoxDraftValue) (number : BoxNo) (generation : ℕ) → IsNewer draft.number.0 draft.generation v → number ≡ draft.number → Some generation ≡ option_map (λ b. b.generation) (box_at v.map number.0)
+    → (m : MapMeaning) → w.map ≡ map_applied (entry.G draft.number draft.generation) m → IsOutOfForce number.0 generation w.map
+old_out v w draft number generation newer same is m applied =
+    subst (λ (k : BoxNo). IsOutOfForce k.0 generation w.map) (sym same)
+    (subst (λ (n : MapMeaning). IsOutOfForce draft.number.0 generation n) (sym applied)
+    (old_is_out m draft.number draft.generation generation (old_generation v draft generation newer (subst (λ (k : BoxNo). Some generation ≡ option_map (λ b. b.generation) (box_at v.map k.0)) same is))))
+
+-- its file
+pub old_name : (m : MapMeaning) (n number generation : ℕ) (box : MapBox) → number ≡ n → box_at m n ≡ Some box → Some generation ≡ option_map (λ b. b.generation) (box_at m number) → file.Box number generation ≡ file.Box box.number box.generation
+old_name m n number generation box same found is =
+    let there = found_one (λ (b : MapBox). b.number == n) m.boxes box found in
+    let is_number : box.number ≡ n = equal_is box.number n there.1 in
+    let e : Some generation ≡ option_map (λ b. b.generation) (Some box) = is ∙ ap (λ (k : ℕ). option_map (λ (b : MapBox). b.generation) (box_at m k)) same ∙ ap (option_map (λ (b : MapBox). b.generation)) found in
+    let is_generation : generation ≡ box.generation = cc e in
+    ap (λ (k : ℕ). file.Box k generation) (same ∙ sym is_number) ∙ ap (λ (g : ℕ). file.Box box.number g) is_generation
+
+pub gone_as : (name other : FileName) (h : Option History) → name ≡ other → IfTold h (λ now. now name ≡ no_file) → IfTold h (λ now. now other ≡ no_file)
+gone_as name other h same gone = subst (λ (n : FileName). IfTold h (λ now. now n ≡ no_file)) same gone
+
+pub others_as : (map_log map_name old_log old_name draft : FileName) (old settled put new : Option History) → map_name ≡ map_log → old_log ≡ old_name → SameButFor draft old settled → SameButFor map_name settled put → NamedButFor old_log put new
+    → Between (AreNamedButFor map_log old_name draft) old new
+others_as map_log map_name old_log old_name draft old settled put new same also first second third =
+    others_named map_log old_name draft old settled put new first (subst (λ (n : FileName). SameButFor n settled put) same second) (subst (λ (n : FileName). OthersAreNamed n put new) also (named_but old_log put new third))

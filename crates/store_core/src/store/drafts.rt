@@ -230,6 +230,7 @@ impl<D: Disk> Store<D> {
         ensures taken { OnOk result (self.new.map ≡ map_applied (map_entry.G draft.number draft.generation) self.old.map) }
         ensures indexes { OnOk result (indexes_of self.new.boxes ≡ meanings_with draft.number.0 draft.index.meaning self.old.map.boxes (indexes_of self.old.boxes)) }
         ensures log { OnOk result (option_map (λ b. b.log) (find (λ b. b.number.0 == draft.number.0) self.new.boxes) ≡ Some draft.log) }
+        ensures leak { OnOk result ((uid : ℕ) → leak_at uid self.new ≡ leak_at uid self.old + listed_at uid self.old - listed_with draft uid self.old) }
         ensures means { MeansSame self.old.map self.new.map }
         ensures others { OnOk result (SameButFor self.old.map_log.name (D.history self.old.disk) (D.history self.new.disk)) }
         ensures untaken { IsErr result → (self.new.map ≡ self.old.map) × (self.new.boxes ≡ self.old.boxes) }

@@ -3,6 +3,7 @@ use Rattle.mdbox_base.specs.declared.entries.MapEntry.TheVariants as entry
 use Rattle.model_meaning.specs.SameMeaning.{MeansSame}
 use Rattle.store_core.specs.Drafts.{meanings_with}
 use Rattle.store_core.proofs.ChangeCallLemmas.{made_after_change}
+use Rattle.store_core.proofs.DraftSwitchLemmas.{leak_then}
 use Rattle.store_core.proofs.KnownInstanceLemmas.{instances_changed}
 use Rattle.store_core.proofs.MailStayLemmas.{map_log_kept}
 use Rattle.store_core.proofs.NamingLemmas.{stored_named}
@@ -80,3 +81,9 @@ returns-in-Ok-clause-means g c =
     let can = can_switch g.D.Disk.history _ c.args.self.now c.draft.inside.open_box c.draft.inside.generation c.args.draft c.deref.result.now c.in-Some.place c.self.invariant.1 c.self.view_is c.draft.view_is c.requires.running c.requires.held c.requires.named c.requires.counts c.deref.ensures.value c.in-Some.ensures.some in
     subst (λ v. MeansSame v.map c.apply_generation.new.map.meaning) c.self.view_is
     (subst (λ (m : MapMeaning). MeansSame c.self.inside.map.meaning m) (sym c.apply_generation.ensures) (same_means _ _ (draft_of c.draft.inside.open_box c.draft.inside.generation) c.draft.inside.open_box c.in-Some.place can))
+
+pub returns-in-Ok-clause-leak : goal.returns-in-Ok-clause-leak
+returns-in-Ok-clause-leak g c = λ uid.
+    let can = can_switch g.D.Disk.history _ c.args.self.now c.draft.inside.open_box c.draft.inside.generation c.args.draft c.deref.result.now c.in-Some.place c.self.invariant.1 c.self.view_is c.draft.view_is c.requires.running c.requires.held c.requires.named c.requires.counts c.deref.ensures.value c.in-Some.ensures.some in
+    leak_then g.D.Disk.history _ c.args.self.now (record c.args.self.now { map = c.apply_generation.new.map.meaning; boxes = slice_set c.self.inside.boxes.items c.in-Some.place c.draft.inside.open_box; dues = c.self.inside.dues.items })
+    (draft_of c.draft.inside.open_box c.draft.inside.generation) c.args.draft c.draft.inside.open_box c.in-Some.place uid c.self.view_is c.draft.view_is can c.apply_generation.ensures refl refl
