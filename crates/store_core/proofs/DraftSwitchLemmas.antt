@@ -1,7 +1,8 @@
 -- A switch to a draft in three steps: its sync, the entry that names it, and the removal of the old log.
 use Rattle.store_core.proofs.Common.{◌⊎◌, inl, inr, ◌≡◌, ◌≢◌, ◌<◌, ◌≤◌, ◌+◌, ◌-◌, ◌==◌, ℕ, Bool, true, false, if◌then◌else◌, List, [], ◌∷◌, map, find, Option, Some, None, All, refl, sym, ◌∙◌, ap, subst, arith, All-head, All-tail, All-cons, All-nil, All-weaker, All-contains, sum_by, count_by, sum_by-cons}
 use Rattle.store_core.proofs.Common.{Files, DiskState, History, IfTold, Between, between-on, SameButFor, FileName, named, each_image-map, OthersAreNamed, BoxEntry, BoxNo, Lists, LogRow, BoxMeaning, rows_after, MapBox, MapRecord, MapMeaning, map_applied, HasItsRecord, IsAccounted, Safe, files_of, Leaves, KeepsStored, StoresMessage}
-use Rattle.store_core.proofs.Common.{IsStore, StoreValue, OpenBox, slice_set, indexes_of, list_numbered, no_file, NamedButFor, option_map, listed_of, number_beside, due_at, leak_at, listed_at, equal_is, ne_eqb, eq-eqb, bit}
+use Rattle.store_core.proofs.Common.{IsStore, StoreValue, OpenBox, slice_set, indexes_of, list_numbered, no_file, NamedButFor, option_map, listed_of, number_beside, due_at, leak_at, listed_at, equal_is, ne_eqb, eq-eqb, bit, false≢true}
+use Rattle.std.proofs.Common.{Result, Ok, Err, OnOk, IsErr}
 use Rattle.std.specs.List.{AllByRecursion}
 use Rattle.disk_model.proofs.BetweenLemmas.{between-then}
 use Rattle.disk_model.proofs.MomentLemmas.{each_image-then}
@@ -154,6 +155,10 @@ gives_messages H v w draft messages lists same keeps listed =
 
 pub gives_same : {D : Type 0} → (H : D → Option History) (v w : StoreValue D) (draft : BoxDraftValue) (lists : Lists) → IsAsBefore v w → list_numbered v draft.number.0 ≡ Some draft.index.meaning → GivesLists draft w (H w.disk) lists lists
 gives_same H v w draft lists same means = inr (ap (λ (x : StoreValue _). list_numbered x draft.number.0) same ∙ means, refl)
+
+pub not_ok : {T E : Type 0} → (r : Result T E) (P : Type 0) → IsErr r → OnOk r P
+not_ok (Ok x) P is = absurd (false≢true is)
+not_ok (Err e) P is = tt
 
 -- the generation of the log in force is an earlier one
 pub old_generation : {D : Type 0} → (v : StoreValue D) (draft : BoxDraftValue) (generation : ℕ) → IsNewer draft.number.0 draft.generation v → Some generation ≡ option_map (λ b. b.generation) (box_at v.map draft.number.0) → generation < draft.generation
