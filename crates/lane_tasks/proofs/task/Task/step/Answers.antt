@@ -1,8 +1,4 @@
-use Rattle.lane_tasks.proofs.Common.{◌≡◌, ◌<◌, Bool, true, false, refl, sym, ◌∙◌, ap, subst, Progress, StoreValue, ended_by, IsReadyTask, claims_at, work_left, Task, MakeAnswers}
-use Rattle.std.specs.Prelude.{◌↔◌}
-use Rattle.mdbox_base.specs.declared.progress.Progress.TheVariants as progress
-use Rattle.mdbox_base.specs.declared.replies.Refusal.TheVariants as refusal
-use Rattle.mdbox_base.specs.declared.replies.Reply.TheVariants as reply
+use Rattle.lane_tasks.proofs.Common.{◌<◌, refl, sym, ◌∙◌, ap, subst, Progress, ended_by, IsReadyTask, claims_at, work_left, Task, MakeAnswers}
 use Rattle.task_claims.specs.Claims.{no_claims}
 use Rattle.task_claims.specs.Stable.{MovesOwnClaims}
 use Rattle.purge_task.specs.Clause.{BeginsPurge}
@@ -18,7 +14,7 @@ use Rattle.mail_ops.proofs.LeavingLemmas.{same_leaves}
 use Rattle.mail_fetch.proofs.StageLemmas.{halted_reply, used_halted}
 use Rattle.mail_save.proofs.SaveReadyLemmas.{left_with_room}
 use Rattle.lane_tasks.proofs.KeepLemmas.{copy_refused, delete_refused, expunge_refused, keeps_by, keeps_fetching, keeps_purging, keeps_resyncing, keeps_saving, keeps_still, make_refused, move_refused, ops_refused, progress_back, rename_refused}
-use Rattle.lane_tasks.proofs.StepLemmas.{copy_does, counts_does, delete_does, deliver_does, deliver_ran, expunge_does, fetch_does, logs_files, make_does, make_fewer, lists_same, make_numbered, move_does, ops_asked, ops_does, purge_does, ran_before, ready_as, rename_does, resync_does, rest_files, stays_stopped, use_room}
+use Rattle.lane_tasks.proofs.StepLemmas.{copy_does, counts_does, delete_does, deliver_does, expunge_does, fetch_does, logs_files, make_does, make_fewer, lists_same, make_numbered, more_ran, move_does, ops_asked, ops_does, purge_does, ready_as, rename_does, resync_does, rest_files, stays_stopped, use_room}
 use Rattle.lane_tasks.proofs.task.Task.step.Goals as goal
 
 pub returns-in-Ops-clause-does : goal.returns-in-Ops-clause-does
@@ -154,24 +150,16 @@ returns-in-Resync-clause-stopped g c = (c.step-in-Resync.ensures.keeps.stopped.1
 pub returns-in-Purge-clause-stopped : goal.returns-in-Purge-clause-stopped
 returns-in-Purge-clause-stopped g c = (c.step-in-Purge.ensures.step.stopped.1, stays_stopped c.args.store.now c.step-in-Purge.new.store (λ stopped. (c.step-in-Purge.ensures.still stopped).0))
 
--- a make that goes on ran in a store that runs
-make_ran : {D : Type 0} → (old new : StoreValue D) (answer : Progress) → ((answer ≡ progress.Done (reply.Refused refusal.Stopped)) ↔ (new.stopped ≡ true)) → (old.stopped ≡ true → new ≡ old) → answer ≡ progress.More → old.stopped ≡ false
-make_ran old new answer halts still more = by_test new.stopped refl
-  where
-    by_test : (b : Bool) → new.stopped ≡ b → old.stopped ≡ false
-    by_test true is = absurd (let k : progress.More ≡ progress.Done (reply.Refused refusal.Stopped) = sym more ∙ halts.1 is in cc k)
-    by_test false is = ran_before old.stopped new.stopped (λ stopped. ap (λ (s : StoreValue _). s.stopped) (still stopped) ∙ stopped) is
-
 pub returns-in-Make-clause-ready : goal.returns-in-Make-clause-ready
 returns-in-Make-clause-ready g c = λ more runs.
     let step = c.step-in-Make.ensures in
-    let ran = make_ran c.args.store.now c.step-in-Make.new.store c.step-in-Make.result step.keeps.stopped (λ stopped. (step.keeps.still stopped).0) more in
+    let ran = more_ran c.args.store.now c.step-in-Make.new.store c.step-in-Make.result step.keeps.stopped (λ stopped. (step.keeps.still stopped).0) more in
     (step.ready runs, make_numbered c.in-Make.task.name c.in-Make.task.stage c.step-in-Make.new.self.stage c.args.store.now c.step-in-Make.new.store _ _ c.step-in-Make.result (step.replies ran) more)
 
 pub returns-in-Make-clause-left : goal.returns-in-Make-clause-left
 returns-in-Make-clause-left g c = λ more.
     let step = c.step-in-Make.ensures in
-    let ran = make_ran c.args.store.now c.step-in-Make.new.store c.step-in-Make.result step.keeps.stopped (λ stopped. (step.keeps.still stopped).0) more in
+    let ran = more_ran c.args.store.now c.step-in-Make.new.store c.step-in-Make.result step.keeps.stopped (λ stopped. (step.keeps.still stopped).0) more in
     subst (λ (t : Task). work_left (task.Make c.step-in-Make.new.self) c.step-in-Make.new.store < work_left t c.args.store.now) (sym c.in-Make.is)
     (make_fewer c.in-Make.task.name c.in-Make.task c.step-in-Make.new.self c.args.store.now c.step-in-Make.new.store _ _ c.step-in-Make.result (step.replies ran) more (step.left more))
 
@@ -201,7 +189,7 @@ step-requires-in-Deliver g c = record {
 pub returns-in-Deliver-clause-ready : goal.returns-in-Deliver-clause-ready
 returns-in-Deliver-clause-ready g c = λ more runs.
     let step = c.step-in-Deliver.ensures in
-    let ran = deliver_ran c.args.store.now c.step-in-Deliver.new.store c.step-in-Deliver.result step.ended more in
+    let ran = more_ran c.args.store.now c.step-in-Deliver.new.store c.step-in-Deliver.result step.ended.stopped step.ended.still more in
     let ready = subst (λ (k : Task). IsReadyTask k c.args.store.now (g.D.Disk.history c.args.store.now.disk)) c.in-Deliver.is (c.requires.ready ran) in
     (ready.0, ready_as c.in-Deliver.task c.step-in-Deliver.new.self ready.0 c.step-in-Deliver.new.store (g.D.Disk.history c.step-in-Deliver.new.store.disk) step.request (step.ready more ready.0 ready.1))
 
