@@ -72,20 +72,19 @@ held_same {D} store instance (row ∷ rows) knows known some = by_test (bytes_eq
         let sum : holds_of (row ∷ rows) instance.id ≡ one_if (bytes_eq row.id.0 instance.id.0) + holds_of rows instance.id = sum_by-cons (λ (r : InstRow). one_if (bytes_eq r.id.0 instance.id.0)) row rows in
         or_right (is_same_instance instance row) (list_any (is_same_instance instance) rows) (more (omega (arith, none, sum, some)))
 
+-- one instance has one id
+same_back : (instance row : InstRow) → is_same_instance instance row ≡ true → bytes_eq row.id.0 instance.id.0 ≡ true
+same_back instance row same = (bytes_eq-Decides row.id.0 instance.id.0).1 (sym ((bytes_eq-Decides instance.id.0 row.id.0).0 (and_parts (bytes_eq instance.hash.0 row.hash.0) (bytes_eq instance.id.0 row.id.0) same).1))
+
 -- and the other way round, known or not
 same_held : (instance : InstRow) (rows : List InstRow) → list_any (is_same_instance instance) rows ≡ true → 1 ≤ holds_of rows instance.id
 same_held instance [] is = no_true is
-same_held instance (row ∷ rows) is = by_case (or_cases (is_same_instance instance row) (list_any (is_same_instance instance) rows) is) (same_held instance rows)
-  where
-    sum : holds_of (row ∷ rows) instance.id ≡ one_if (bytes_eq row.id.0 instance.id.0) + holds_of rows instance.id
-    sum = sum_by-cons (λ (r : InstRow). one_if (bytes_eq r.id.0 instance.id.0)) row rows
-
-    by_case : (is_same_instance instance row ≡ true) ⊎ (list_any (is_same_instance instance) rows ≡ true) → (list_any (is_same_instance instance) rows ≡ true → 1 ≤ holds_of rows instance.id) → 1 ≤ holds_of (row ∷ rows) instance.id
-    by_case (inl same) rest =
-        let id : bytes_eq instance.id.0 row.id.0 ≡ true = (and_parts (bytes_eq instance.hash.0 row.hash.0) (bytes_eq instance.id.0 row.id.0) same).1 in
-        let one : one_if (bytes_eq row.id.0 instance.id.0) ≡ 1 = ap one_if ((bytes_eq-Decides row.id.0 instance.id.0).1 (sym ((bytes_eq-Decides instance.id.0 row.id.0).0 id))) in
-        omega (arith, sum, one)
-    by_case (inr more) rest = let held = rest more in omega (arith, sum, held)
+same_held instance (row ∷ rows) is =
+    let sum = sum_by-cons (λ (r : InstRow). one_if (bytes_eq r.id.0 instance.id.0)) row rows in
+    elim (or_cases (is_same_instance instance row) (list_any (is_same_instance instance) rows) is) [
+      | inl same ↦ let one = ap one_if (same_back instance row same) in omega (arith, sum, one)
+      | inr more ↦ let held = same_held instance rows more in omega (arith, sum, held)
+    ]
 
 -- ---- events
 
@@ -131,14 +130,10 @@ delivery_told now name time size octets store history run place said instance at
 
 same_named : (instance : InstRow) (rows : List InstRow) → list_any (is_same_instance instance) rows ≡ true → list_any (λ (i : InstRow). bytes_eq i.id.0 instance.id.0) rows ≡ true
 same_named instance [] is = no_true is
-same_named instance (row ∷ rows) is = by_case (or_cases (is_same_instance instance row) (list_any (is_same_instance instance) rows) is) (same_named instance rows)
-  where
-    by_case : (is_same_instance instance row ≡ true) ⊎ (list_any (is_same_instance instance) rows ≡ true) → (list_any (is_same_instance instance) rows ≡ true → list_any (λ (i : InstRow). bytes_eq i.id.0 instance.id.0) rows ≡ true)
-        → (bytes_eq row.id.0 instance.id.0 || list_any (λ (i : InstRow). bytes_eq i.id.0 instance.id.0) rows) ≡ true
-    by_case (inl same) rest =
-        let id : bytes_eq instance.id.0 row.id.0 ≡ true = (and_parts (bytes_eq instance.hash.0 row.hash.0) (bytes_eq instance.id.0 row.id.0) same).1 in
-        or_left (bytes_eq row.id.0 instance.id.0) _ ((bytes_eq-Decides row.id.0 instance.id.0).1 (sym ((bytes_eq-Decides instance.id.0 row.id.0).0 id)))
-    by_case (inr more) rest = or_right (bytes_eq row.id.0 instance.id.0) _ (rest more)
+same_named instance (row ∷ rows) is = elim (or_cases (is_same_instance instance row) (list_any (is_same_instance instance) rows) is) [
+  | inl same ↦ or_left (bytes_eq row.id.0 instance.id.0) _ (same_back instance row same)
+  | inr more ↦ or_right (bytes_eq row.id.0 instance.id.0) _ (same_named instance rows more)
+]
 
 among : (test : InstRow → Bool) (uid : ℕ) (records : List MapRecord) (row : MapRecord) → find (λ r. r.uid == uid) records ≡ Some row → list_any test row.instances ≡ true → list_any test (flat_map (λ r. r.instances) records) ≡ true
 among test uid [] row there is = absurd (let k : None ≡ Some row = there in cc k)
@@ -219,11 +214,10 @@ or_none true e = refl
 or_none false e = e
 
 pinned_same : (from : StoredAt) (own behind : List RunEvent) (instance : InstRow) → HasPinned from own behind → list_any (pins_instance instance) behind ≡ false → list_any (pins_instance instance) own ≡ true → list_any (is_same_instance instance) from.instances ≡ true
-pinned_same from own behind instance p bare any = by_case (or_cases (pins_instance instance p.pin) (list_any (pins_instance instance) behind) (sym (ap (list_any (pins_instance instance)) p.own_are) ∙ any))
-  where
-    by_case : (pins_instance instance p.pin ≡ true) ⊎ (list_any (pins_instance instance) behind ≡ true) → list_any (is_same_instance instance) from.instances ≡ true
-    by_case (inl is) = or_none (list_any (is_same_instance instance) from.instances) (sym (pin_has from own behind instance p) ∙ is)
-    by_case (inr is) = no_true (sym bare ∙ is)
+pinned_same from own behind instance p bare any = elim (or_cases (pins_instance instance p.pin) (list_any (pins_instance instance) behind) (sym (ap (list_any (pins_instance instance)) p.own_are) ∙ any)) [
+  | inl is ↦ or_none (list_any (is_same_instance instance) from.instances) (sym (pin_has from own behind instance p) ∙ is)
+  | inr is ↦ no_true (sym bare ∙ is)
+]
 
 -- behind the last piece, one that was refused
 last_pinned : (front : List RunEvent) (last : RunEvent) (why : Refusal) → All (ReadPiece None) front → ReadPiece (Some why) last → list_any is_unpinning (front ++ last ∷ []) ≡ false
@@ -253,12 +247,7 @@ fetch_told (fetch_stage.Unpinning from given) store history run place said insta
 fetch_told (fetch_stage.Removing file given) store history run place said instance at ready knows some = none_held 0 refl some
 
 last_any : (p : RunEvent → Bool) (events : List RunEvent) (event : RunEvent) → p event ≡ true → list_any p (events ++ event ∷ []) ≡ true
-last_any p [] event e = ap (λ (b : Bool). b || false) e
-last_any p (a ∷ events) event e = by_test (p a) (last_any p events event e)
-  where
-    by_test : (b : Bool) → list_any p (events ++ event ∷ []) ≡ true → (b || list_any p (events ++ event ∷ [])) ≡ true
-    by_test true rest = refl
-    by_test false rest = rest
+last_any p events event e = list_any-append p events (event ∷ []) ∙ or_right (list_any p events) (p event || false) (or_left (p event) false e)
 
 fetch_keeps : (now : FetchStage) (stopped : Bool) (history : Option History) (run : Run) (place : ℕ) (said : List Reply) (instance : InstRow) → IsAtFetch now stopped history run place said → list_any (pins_instance instance) (own_events place run) ≡ true → list_any is_unpinning (own_events place run) ≡ false
     → 1 ≤ fetch_claims now (Held instance.id)

@@ -83,8 +83,7 @@ all_of_map P [] all = All-nil (λ (t : TakenFile). P t.file)
 all_of_map P (t ∷ files) all = All-cons (λ (t : TakenFile). P t.file) t files (All-head P t.file (map (λ t. t.file) files) all) (all_of_map P files (All-tail P t.file (map (λ t. t.file) files) all))
 
 both_hold : (P Q : TakenFile → Type 0) (files : List TakenFile) → All P files → All Q files → All (λ t. P t × Q t) files
-both_hold P Q [] p q = All-nil (λ (t : TakenFile). P t × Q t)
-both_hold P Q (t ∷ files) p q = All-cons (λ (t : TakenFile). P t × Q t) t files (All-head P t files p, All-head Q t files q) (both_hold P Q files (All-tail P t files p) (All-tail Q t files q))
+both_hold P Q files p q k d less = (p k d less, q k d less)
 
 apart_begun : (event : RunEvent) (m : MapMeaning) (most : ℕ) → map (λ t. t.target) event.files ≡ targets_of m most event.files → All (λ t. t.file ≤ most) event.files → is_storing event.part ≡ false → event.doomed ≡ [] → event.removed ≡ [] → TookApart (event ∷ [])
 apart_begun event m most told within part doomed removed =

@@ -114,19 +114,7 @@ front_least xs ys part = let h : length (xs ++ part.0) ≡ length ys = ap length
 
 halves_two : (q : Request) → length (halves_of q) ≤ 2
 halves_two (request.Move name uid target) = omega arith
-halves_two (request.Deliver name time message) = omega arith
-halves_two (request.List name) = omega arith
-halves_two (request.Fetch name uid) = omega arith
-halves_two (request.Flag name uid flags) = omega arith
-halves_two (request.Keywords name uid words) = omega arith
-halves_two (request.Copy name uid target) = omega arith
-halves_two (request.Expunge name uid) = omega arith
-halves_two (request.Make name) = omega arith
-halves_two (request.Delete name) = omega arith
-halves_two (request.Rename name target) = omega arith
-halves_two request.Counts = omega arith
-halves_two request.Purge = omega arith
-halves_two request.Resync = omega arith
+halves_two q = omega arith
 
 asked_within : (run : Run) (script : Requests) (old : Lists) (journal : List JournalStep) → AreSteps run script old journal → All (λ s. s.request < length script) journal
 asked_within run script old [] s = All-nil (λ (x : JournalStep). x.request < length script)

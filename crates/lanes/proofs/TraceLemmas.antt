@@ -2,6 +2,7 @@
 use Rattle.std.proofs.Common.{◌≡◌, ◌≤◌, ◌+◌, ◌-◌, ◌^◌, ℕ, Bool, true, false, List, [], ◌∷◌, ◌++◌, map, slice_set, Option, Some, None, refl, sym, ◌∙◌, ap, subst, arith}
 use Rattle.std.specs.Prelude.{length}
 use Rattle.std.proofs.lemmas.List.{append-nil}
+use Rattle.std.proofs.lemmas.Bool.{false_from_ne_true}
 use Rattle.disk_model.specs.Disk.{Faults, History}
 use Rattle.model_lists.specs.Lists.{Lists}
 use Rattle.list_machine.specs.Run.{Run, RunEvent, and_then}
@@ -53,11 +54,7 @@ was_busy k old new before after first second w none = absurd (let z : w.goes.que
 
 -- a world of which a lane has a request left wasn't finished
 unfinished : {D : Type 0} → (k : ℕ) (old new : WorldValue D) (before after : Option History) (first second : Faults) → Works k old new before after first second → IsSoundWorld before old → old.finished ≡ false
-unfinished k old new before after first second w s = by_test old.finished refl
-  where
-    by_test : (b : Bool) → old.finished ≡ b → b ≡ false
-    by_test true is = absurd (busy old.rows k w.row w.goes.queued w.there w.goes.was (s.idle is))
-    by_test false is = refl
+unfinished k old new before after first second w s = false_from_ne_true old.finished (λ is. busy old.rows k w.row w.goes.queued w.there w.goes.was (s.idle is))
 
 rows_are : {D : Type 0} → (k : ℕ) (old new : WorldValue D) (before after : Option History) (first second : Faults) → (w : Works k old new before after first second) → slice_set (lanes_of old.rows) k (lane_value w.now) ≡ lanes_of new.rows
 rows_are k old new before after first second w = sym (rows_set old.rows k w.now) ∙ ap lanes_of (sym w.rows_are)

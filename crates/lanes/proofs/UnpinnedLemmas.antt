@@ -3,7 +3,7 @@ use Rattle.std.proofs.Common.{◌≡◌, ◌≤◌, ◌&&◌, ◌||◌, ℕ, zer
 use Rattle.std.specs.Prelude.{◌≢◌, ◌⊎◌, is_none, slice_get, if◌then◌else◌}
 use Rattle.std.specs.List.{list_any}
 use Rattle.std.specs.Option.{IfSome, option_or}
-use Rattle.std.proofs.lemmas.Bool.{eq-eqb, ne_eqb}
+use Rattle.std.proofs.lemmas.Bool.{eq-eqb, ne_eqb, or_left, or_right}
 use Rattle.std.proofs.lemmas.List.{take_all}
 use Rattle.std.proofs.lemmas.List.Folds.{list_any-append}
 use Rattle.mdbox_base.specs.declared.entries.InstRow.{InstRow}
@@ -42,11 +42,7 @@ later : (event : RunEvent) (own : List RunEvent) (part : EventPart) → (own ≡
 later event own First some s = absurd (some s)
 later event own ReadsPiece some s = tt
 later event own Unpins some s = tt
-later event own RemovesFile some s = either (is_unpinning event) (list_any is_unpinning own) s
-  where
-    either : (a b : Bool) → b ≡ true → (a || b) ≡ true
-    either true b e = refl
-    either false b e = e
+later event own RemovesFile some s = or_right (is_unpinning event) (list_any is_unpinning own) s
 later event own part some s = absurd s
 
 no_part : {X : Type 0} → (part : EventPart) → None ≡ Some part → X
@@ -113,14 +109,6 @@ goes_on : {X : Type 0} → (b : Bool) → (if b then Some ReadsPiece else Some U
 goes_on true e = absurd (let k : Some ReadsPiece ≡ None = e in cc k)
 goes_on false e = absurd (let k : Some Unpins ≡ None = e in cc k)
 
-first_true : (a b : Bool) → a ≡ true → (a || b) ≡ true
-first_true true b e = refl
-first_true false b e = absurd (let k : false ≡ true = e in cc k)
-
-second_true : (a b : Bool) → b ≡ true → (a || b) ≡ true
-second_true true b e = refl
-second_true false b e = e
-
 -- an event of a fetch with which it is replied
 ends_so : (around after : Around) (run : Run) (lists : Lists) (name : List ℕ) (uid : Uid) (event : RunEvent) → IsEvent around after run lists (request.Fetch name uid) event → event.refused ≢ Some refusal.Stopped → event.reply ≢ None → HoldsNothing (own_events event.request run ++ event ∷ [])
 ends_so around after run lists name uid event e running ends = by_part event.part refl (stands_before around run name uid (own_events event.request run) event.part e.part_is)
@@ -156,7 +144,7 @@ ends_so around after run lists name uid event e running ends = by_part event.par
 
     by_unpinning : (o : Option Refusal) → event.refused ≡ o → event.part ≡ Unpins → HoldsNothing (own_events event.request run ++ event ∷ [])
     by_unpinning None none at =
-        inr (list_any-append is_unpinning (own_events event.request run) (event ∷ []) ∙ second_true (list_any is_unpinning (own_events event.request run)) (is_unpinning event || false) (first_true (is_unpinning event) false (unpinned_last event at none)))
+        inr (list_any-append is_unpinning (own_events event.request run) (event ∷ []) ∙ or_right (list_any is_unpinning (own_events event.request run)) (is_unpinning event || false) (or_left (is_unpinning event) false (unpinned_last event at none)))
     by_unpinning (Some why) is at =
         not_met around after run lists name uid event why e is (runs why is) (ap (λ (p : EventPart). has_memory p (request.Fetch name uid)) at) (ap (part_checks run event (request.Fetch name uid)) at)
         (λ read. absurd (let k : false ≡ true = subst (λ (r : Refusal). MayMeet Unpins (request.Fetch name uid) r) read (may why is at) in cc k))
@@ -166,7 +154,7 @@ ends_so around after run lists name uid event e running ends = by_part event.par
     by_part First at stands = by_first event.refused refl at stands
     by_part ReadsPiece at stands = by_reading event.refused refl at
     by_part Unpins at stands = by_unpinning event.refused refl at
-    by_part RemovesFile at stands = inr (list_any-append is_unpinning (own_events event.request run) (event ∷ []) ∙ first_true (list_any is_unpinning (own_events event.request run)) (is_unpinning event || false) stands)
+    by_part RemovesFile at stands = inr (list_any-append is_unpinning (own_events event.request run) (event ∷ []) ∙ or_left (list_any is_unpinning (own_events event.request run)) (is_unpinning event || false) stands)
     by_part part at stands = absurd stands
 
 -- ---- replies
