@@ -5,7 +5,6 @@ use Rattle.std.proofs.lemmas.List.{append_assoc, length-append, length-set, leng
 use Rattle.std.proofs.lemmas.List.Elements.{All-cons, All-head, All-nil, All-tail, All-same, All-weaker, All-map}
 use Rattle.std.proofs.lemmas.Option.{slice_get_within}
 use Rattle.std.proofs.lemmas.Bool.{eq-eqb, ne_eqb}
-use Rattle.lanes.proofs.GoingLemmas.{row_cases}
 use Rattle.attach_detach.specs.declared.message.Prepared.{Prepared}
 use Rattle.mdbox_base.specs.declared.replies.Reply.{Reply}
 use Rattle.mdbox_base.specs.declared.requests.Request.{Request}
@@ -14,6 +13,7 @@ use Rattle.serving.specs.Lanes.{queue_of}
 use Rattle.serving.proofs.LaneLemmas.{get_set_other, get_set_same, nat_cases, one_some}
 use Rattle.serving.proofs.ServingLemmas.{all_at}
 use Rattle.lane_tasks.specs.Tasks.{BeginsTask}
+use Rattle.lanes.proofs.GoingLemmas.{row_cases}
 use Rattle.lanes.specs.Going.{WaitsWithTask}
 use Rattle.lanes.specs.Rows.{LaneRow, queue_in}
 use Rattle.lanes.specs.Worlds.{AreFreshParts, AreGiven, AreOfLanes, ArePartsOf, AreRowsFrom, BeginsSome, HasItsMessage, IsRowFrom, empty_row, queued_in}
