@@ -89,7 +89,21 @@ module _ (start : Lists) (script : Requests) (run : Run) (journal : List Journal
 
   steps_grow : (r : Run) (lists : Lists) (steps : List JournalStep) → AreSteps r script lists steps → AreSteps r grown lists steps
   steps_grow r lists [] are = are
-  steps_grow r lists (step ∷ steps) are = (record are.0 { request_is = get_more script (q ∷ []) step.request are.0.asked are.0.request_is }, steps_grow r step.left steps are.1)
+  steps_grow r lists (step ∷ steps) are = (
+    record {
+      asked = are.0.asked;
+      request_is = get_more script (q ∷ []) step.request are.0.asked are.0.request_is;
+      lane_is = are.0.lane_is;
+      event = are.0.event;
+      event_is = are.0.event_is;
+      own_request = are.0.own_request;
+      own_lane = are.0.own_lane;
+      half_is = are.0.half_is;
+      says = are.0.says;
+      answers = are.0.answers;
+    },
+    steps_grow r step.left steps are.1,
+  )
 
   order_grows : steps_of (length script) journal ≡ [] → StandInOrder script journal → StandInOrder grown journal
   order_grows none order = record { events = order.events; halves = λ i asked there. by_case i asked (old_or_last script q i asked there); lanes = order.lanes }
