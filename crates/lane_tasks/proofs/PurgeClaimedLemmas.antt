@@ -4,14 +4,16 @@ use Rattle.lane_tasks.proofs.Common.{All-tail, list_any-append, sum_by-cons, Fil
 use Rattle.lane_tasks.proofs.Common.{sources_left, PurgeValue, IsAtPurgeStage, PurgeStage, Source}
 use Rattle.std.specs.Prelude.{◌++◌, AllPairs, Contains}
 use Rattle.std.specs.Option.{option_or, option_map}
-use Rattle.std.proofs.lemmas.List.Elements.{All-contains, All-weaker}
+use Rattle.std.proofs.lemmas.List.Elements.{All-contains, All-weaker, All-map, All-append}
 use Rattle.std.proofs.lemmas.Bool.{or_from, and_left, and_right, ne_eqb, eq-eqb, or_cases, or_parts, and_from, eqb-true, or_left, or_right}
 use Rattle.std.proofs.lemmas.Map.Keys.{any_passes_from_place}
 use Rattle.std.proofs.lemmas.Option.{slice_get-map, slice_get-get_or}
+use Rattle.std.proofs.lemmas.List.Folds.{list_any_none}
 use Rattle.model_octets.proofs.PairLemmas.{pairs_head, pairs_tail}
 use Rattle.journal.specs.Events.{last_refusal}
 use Rattle.purge_task.specs.Stages.{HaveTaken, IsAtSwitched, told_taken}
 use Rattle.purge_task.specs.declared.task.PurgeStage.TheVariants as stage
+use Rattle.lane_tasks.proofs.PurgeApartLemmas.{all_of_map}
 use Rattle.lane_tasks.specs.Tasks.{DoomsWithin, IsTakenWithin, TookApart}
 use Rattle.lane_tasks.proofs.PurgeTakenLemmas.{counted, is_gone, is_of, is_target_done}
 
@@ -87,24 +89,15 @@ unended most file (x ∷ own) all none =
     or_from (is_storing x.part || is_gone file x) (list_any (λ (e : RunEvent). is_storing e.part || is_gone file e) own) (or_from (is_storing x.part) (is_gone file x) here.0 parts.0) (unended most file own (All-tail (DoomsWithin most) x own all) parts.1)
 
 none_above : (most file : ℕ) (files : List ℕ) → most < file → All (λ n. n ≤ most) files → is_one_of files file ≡ false
-none_above most file [] above all = refl
-none_above most file (f ∷ files) above all =
-    let here = All-head (λ (n : ℕ). n ≤ most) f files all in
-    or_from (f == file) (is_one_of files file) (ne_eqb f file (λ e. absurd (omega (arith, e, here, above)))) (none_above most file files above (All-tail (λ (n : ℕ). n ≤ most) f files all))
+none_above most file files above all = list_any_none (λ f. f == file) files (All-weaker (λ n. n ≤ most) (λ f. (f == file) ≡ false) (λ f within. ne_eqb f file (λ e. absurd (omega (arith, e, within, above)))) files all)
 
 none_gone_above : (most file : ℕ) (own : List RunEvent) → most < file → All (DoomsWithin most) own → list_any (is_gone file) own ≡ false
-none_gone_above most file [] above all = refl
-none_gone_above most file (x ∷ own) above all =
-    let here = All-head (DoomsWithin most) x own all in
-    or_from (is_gone file x) (list_any (is_gone file) own) (or_from (is_one_of x.doomed file) (is_one_of x.removed file) (none_above most file x.doomed above here.1) (none_above most file x.removed above here.2)) (none_gone_above most file own above (All-tail (DoomsWithin most) x own all))
-
-each_told : (P : TakenFile → Type 0) (left : List Source) → All P (map told_taken left) → All (λ x. P (told_taken x)) left
-each_told P [] all = All-nil (λ (x : Source). P (told_taken x))
-each_told P (x ∷ rest) all = All-cons (λ (x : Source). P (told_taken x)) x rest (All-head P (told_taken x) (map told_taken rest) all) (each_told P rest (All-tail P (told_taken x) (map told_taken rest) all))
+none_gone_above most file own above all = list_any_none (is_gone file) own (All-weaker (DoomsWithin most) (λ event. is_gone file event ≡ false)
+    (λ event here. or_from (is_one_of event.doomed file) (is_one_of event.removed file) (none_above most file event.doomed above here.1) (none_above most file event.removed above here.2)) own all)
 
 -- what holds of all that was taken holds of each that is left
 of_left : (P : TakenFile → Type 0) (done left : List Source) (s : Source) → All P (map told_taken (done ++ left)) → Contains left s → P (told_taken s)
-of_left P [] left s all c = All-contains (λ x. P (told_taken x)) left s (each_told P left all) c
+of_left P [] left s all c = All-contains (λ x. P (told_taken x)) left s (all_of_map P told_taken left all) c
 of_left P (d ∷ done) left s all c = of_left P done left s (All-tail P (told_taken d) (map told_taken (done ++ left)) all) c
 
 abbrev AreTargetsApart : TakenFile → TakenFile → Type 0
@@ -112,11 +105,7 @@ AreTargetsApart a b = (a.target ≡ 0) ⊎ (a.target ≢ b.target)
 
 -- a test that neither those that are done pass nor those that aren't
 none_passes : (q : TakenFile → Bool) (done left : List Source) → All (λ s. q (told_taken s) ≡ false) done → All (λ s. q (told_taken s) ≡ false) left → list_any q (map told_taken (done ++ left)) ≡ false
-none_passes q [] [] no_done no_left = refl
-none_passes q [] (s ∷ left) no_done no_left =
-    or_from (q (told_taken s)) (list_any q (map told_taken left)) (All-head (λ (s : Source). q (told_taken s) ≡ false) s left no_left) (none_passes q [] left no_done (All-tail (λ (s : Source). q (told_taken s) ≡ false) s left no_left))
-none_passes q (d ∷ done) left no_done no_left =
-    or_from (q (told_taken d)) (list_any q (map told_taken (done ++ left))) (All-head (λ (s : Source). q (told_taken s) ≡ false) d done no_done) (none_passes q done left (All-tail (λ (s : Source). q (told_taken s) ≡ false) d done no_done) no_left)
+none_passes q done left no_done no_left = list_any_none q (map told_taken (done ++ left)) (All-map (λ t. q t ≡ false) told_taken (done ++ left) (All-append (λ s. q (told_taken s) ≡ false) done left no_done no_left))
 
 -- a target of one that is done is neither a file that was taken, nor another's target
 source_apart : (most file : ℕ) (own : List RunEvent) (done left : List Source) → 1 ≤ file → file ≤ most → All (IsTakenWithin most) (map told_taken (done ++ left)) → All (λ d. is_target_done file own (told_taken d) ≡ false) done

@@ -29,7 +29,7 @@ make_pins : (now : MakeStage) (file : ℕ) → make_claims now (Pinned file) ≡
 make_pins make_stage.First file = refl
 make_pins (make_stage.Naming number) file = refl
 
-make_holds : (now : MakeStage) (id : InstId) → make_claims now (Held id) ≡ 0
+pub make_holds : (now : MakeStage) (id : InstId) → make_claims now (Held id) ≡ 0
 make_holds make_stage.First id = refl
 make_holds (make_stage.Naming number) id = refl
 

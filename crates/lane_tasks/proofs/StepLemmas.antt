@@ -224,9 +224,7 @@ make_fewer name t u old new before after answer said more fewer =
 
 pub use_room : {D : Type 0} → (now : FetchStage) (store : StoreValue D) → HasUseRoom store → HasFetchRoom now store
 use_room fetch_stage.First store room = room
-use_room (fetch_stage.Reading region) store room = tt
-use_room (fetch_stage.Unpinning from given) store room = tt
-use_room (fetch_stage.Removing file given) store room = tt
+use_room now store room = tt
 
 fetch_request : (t u : FetchValue) → (u.name ≡ t.name) × (u.uid ≡ t.uid) → request.Fetch t.name t.uid ≡ request.Fetch u.name u.uid
 fetch_request t u e = let n = e.0 in let i = e.1 in cc (n, i)

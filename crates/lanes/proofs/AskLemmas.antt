@@ -6,9 +6,6 @@ use Rattle.std.proofs.lemmas.List.{length-append, length-set}
 use Rattle.std.proofs.lemmas.List.Elements.{All-append, All-cons, All-head, All-nil, All-tail, All-weaker, All-push}
 use Rattle.std.proofs.lemmas.List.Sums.{sum_by-cons}
 use Rattle.std.proofs.lemmas.Option.{slice_get_within}
-use Rattle.lanes.proofs.WorldLemmas.{one_none}
-use Rattle.journal.proofs.ReachedLemmas.{get_last}
-use Rattle.lanes.proofs.KeptLemmas.{map_more}
 use Rattle.disk_model.specs.Disk.{Faults, History}
 use Rattle.mdbox_base.specs.declared.ids.Uid.{Uid}
 use Rattle.mdbox_base.specs.declared.replies.Reply.{Reply}
@@ -17,6 +14,7 @@ use Rattle.mdbox_base.specs.declared.requests.Request.TheVariants as request
 use Rattle.mdbox_base.specs.declared.script.JournalEntry.{JournalEntry}
 use Rattle.model_lists.specs.Lists.{Lists}
 use Rattle.list_machine.specs.Run.{Run, RunEvent, own_events}
+use Rattle.journal.proofs.ReachedLemmas.{get_last}
 use Rattle.journal.specs.Journal.{Broken, JournalStep, Requests}
 use Rattle.journal.proofs.JournalLemmas.{get_more}
 use Rattle.serving.specs.Accounts.{IsReadyLane, LanesAccount, lane_claims}
@@ -32,6 +30,8 @@ use Rattle.mail_fetch.specs.Task.{seen_in}
 use Rattle.lane_tasks.specs.Tasks.{BeginsTask, IsReadyTask, claims_at}
 use Rattle.lane_tasks.specs.declared.task.Task.{Task}
 use Rattle.lane_tasks.proofs.StandLemmas.{begins_ready, begins_standing, begins_unclaimed}
+use Rattle.lanes.proofs.WorldLemmas.{one_none}
+use Rattle.lanes.proofs.KeptLemmas.{map_more}
 use Rattle.lanes.specs.Asked.{HasNoIdleTurn, IsRequestAsked, asked_behind, row_asked, world_asked}
 use Rattle.lanes.specs.Going.{AreUndamaged, AreWaiting, FindsMessages, IsGoing, IsUndamaged, WaitsWithTask, stands_in}
 use Rattle.lanes.specs.Rows.{LaneRow, lane_value, lanes_of, queue_in}

@@ -4,7 +4,6 @@ use Rattle.std.specs.Prelude.{All, length, slice_get, option_map}
 use Rattle.std.proofs.lemmas.List.Elements.{All-nil}
 use Rattle.std.proofs.lemmas.List.Sums.{sum_by-cons}
 use Rattle.std.proofs.lemmas.Option.{slice_get-map}
-use Rattle.lanes.specs.Worlds.{BeginsSome}
 use Rattle.disk_model.specs.Disk.{History, Faults, told_calls}
 use Rattle.mdbox_base.specs.declared.ids.Uid.{Uid}
 use Rattle.mdbox_base.specs.declared.requests.Request.{Request}
@@ -30,6 +29,7 @@ use Rattle.mail_fetch.specs.Task.{seen_in}
 use Rattle.lane_tasks.specs.Tasks.{BeginsTask, IsReadyTask, claims_at}
 use Rattle.lane_tasks.specs.declared.task.Task.{Task}
 use Rattle.lane_tasks.proofs.StandLemmas.{begins_ready, begins_standing, begins_unclaimed}
+use Rattle.lanes.specs.Worlds.{BeginsSome}
 use Rattle.lanes.specs.Going.{AreFreshRows, AreUndamaged, FindsMessages, IsFreshRow, IsGoing, IsUndamaged, stands_in}
 use Rattle.lanes.specs.Rows.{LaneRow, lane_value, lanes_of, queue_in}
 use Rattle.lanes.specs.declared.lane.Queued.{Queued}

@@ -99,9 +99,7 @@ files_found around after script start run journal began history place lane asked
 
 answers_at : {D : Type 0} → (now : FetchStage) (name : List ℕ) (uid : Uid) (lists : Lists) (store : StoreValue D) (history : Option History) (run : Run) (place : ℕ) (said : List Reply) → IsStore history store → store.stopped ≡ false → IsAtFetch now store.stopped history run place said → (own_events place run ≡ [] → ReadsSafe lists history) → CanFetch now name uid lists store.map history
 answers_at stage.First name uid lists store history run place said opened runs at safe = safe_fetched stage.First name uid store history lists opened runs (safe at.0)
-answers_at (stage.Reading region) name uid lists store history run place said opened runs at safe = tt
-answers_at (stage.Unpinning from given) name uid lists store history run place said opened runs at safe = tt
-answers_at (stage.Removing file given) name uid lists store history run place said opened runs at safe = tt
+answers_at now name uid lists store history run place said opened runs at safe = tt
 
 -- Only a fetch answers by the files of messages.
 pub can_answer : {D : Type 0} → (t : Task) (asked : Request) (lists : Lists) (store : StoreValue D) (history : Option History) (run : Run) (place : ℕ) (said : List Reply) → IsStore history store → store.stopped ≡ false → StandsTask t store history asked run place said

@@ -5,8 +5,6 @@ use Rattle.std.specs.Prelude.{◌≢◌, ◌⊎◌, ◌++◌, is_some, length, s
 use Rattle.std.proofs.lemmas.Option.{slice_get-map}
 use Rattle.std.proofs.lemmas.List.{length-set}
 use Rattle.std.proofs.lemmas.List.Elements.{All-cons, All-head, All-tail, All-nil, All-pop, All-weaker}
-use Rattle.lanes.proofs.KeptLemmas.{map_set}
-use Rattle.lane_tasks.proofs.StepLemmas.{ran_before}
 use Rattle.disk_model.specs.Disk.{History, Faults, told_calls}
 use Rattle.disk_model.specs.FaultCounts.{NoFault}
 use Rattle.mdbox_base.specs.declared.progress.Did.{Did}
@@ -37,10 +35,12 @@ use Rattle.task_claims.specs.Leaving.{LeavesOthers}
 use Rattle.task_steps.specs.Serves.{BreaksBy, IsTurn}
 use Rattle.task_steps.specs.Step.{DidEvent, FaultsGrow, FindsRoom, IsFault, Seen, Went, and_told, ended_by}
 use Rattle.mail_fetch.specs.Task.{seen_in}
+use Rattle.lane_tasks.proofs.StepLemmas.{ran_before}
 use Rattle.lane_tasks.specs.Clause.{CanAnswer, FindsAround, PassesBy, SparesTask, TellsRun, around_at}
 use Rattle.lane_tasks.specs.Tasks.{BeginsTask, IsReadyTask, StandsTask, claims_at, did_of}
 use Rattle.lane_tasks.specs.declared.task.Task.{Task}
 use Rattle.lane_tasks.proofs.StandLemmas.{begins_ready, begins_standing, begins_unclaimed, task_stable, task_stands}
+use Rattle.lanes.proofs.KeptLemmas.{map_set}
 use Rattle.lanes.specs.Going.{AddsEvent, AreWaiting, IsGoing, IsStepOf, WaitsWithTask, halves_told, stands_in}
 use Rattle.lanes.specs.Worlds.{BeginsSome}
 use Rattle.lanes.specs.Rows.{LaneRow, RowGoesOn, lane_value, lanes_of, next_in_turn, queue_in, after_event}

@@ -6,13 +6,13 @@ use Rattle.std.proofs.lemmas.List.{length-append}
 use Rattle.std.proofs.lemmas.List.Elements.{All-cons, All-head, All-nil, All-tail, Contains-append_left, Contains-push}
 use Rattle.std.proofs.lemmas.List.Sums.{sum_by-cons}
 use Rattle.std.proofs.lemmas.Option.{slice_get_within}
-use Rattle.journal.proofs.ReachedLemmas.{get_last}
 use Rattle.mdbox_base.specs.declared.replies.Refusal.TheVariants as refusal
 use Rattle.mdbox_base.specs.declared.replies.Reply.{Reply}
 use Rattle.mdbox_base.specs.declared.replies.Reply.TheVariants as reply
 use Rattle.mdbox_base.specs.declared.requests.Request.{Request}
 use Rattle.model_lists.specs.Lists.{Lists}
 use Rattle.list_machine.specs.Run.{Run, RunEvent, own_events, reply_of, first_in}
+use Rattle.journal.proofs.ReachedLemmas.{get_last}
 use Rattle.journal.specs.Events.{Around}
 use Rattle.journal.specs.Journal.{AreReplied, AreSteps, Broken, HasReply, HaveCauses, IsFirstPart, IsHalted, IsLegal, JournalStep, LacksOrGoesOn, Requests, RoseBy, StandInOrder, WouldHaveBeen, as_if, halves_of, is_read_fault, left_by, steps_of}
 use Rattle.journal.specs.Makes.{AreNextEvents, AreReplies, AreTold, WouldDo}

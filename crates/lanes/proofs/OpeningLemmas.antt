@@ -3,24 +3,24 @@ use Rattle.std.proofs.Common.{◌≡◌, ◌≤◌, ◌<◌, ◌+◌, ◌^◌, �
 use Rattle.std.specs.Prelude.{All, is_some, length, replicate, slice_get}
 use Rattle.std.proofs.lemmas.List.Elements.{All-head}
 use Rattle.std.proofs.lemmas.Option.{slice_get_within}
-use Rattle.lanes.proofs.WorldLemmas.{one_none}
 use Rattle.disk_model.specs.Disk.{Faults, History}
 use Rattle.model_lists.specs.Lists.{Lists}
 use Rattle.list_machine.specs.Run.{Run}
 use Rattle.journal.specs.Journal.{Requests, no_broken}
-use Rattle.serving.specs.Serving.{unreplied}
-use Rattle.serving.proofs.TurnLemmas.{trace_begins}
 use Rattle.task_steps.specs.Step.{Seen}
 use Rattle.mdbox_base.specs.declared.replies.Reply.{Reply}
 use Rattle.mdbox_base.specs.declared.script.JournalEntry.{JournalEntry}
-use Rattle.serving.specs.Turns.{LaneTurn}
 use Rattle.store_core.specs.Value.{StoreValue}
 use Rattle.task_claims.specs.Claims.{ClaimsNothing, HasNoTask}
 use Rattle.task_claims.proofs.OpenedLemmas.{none_claimed}
+use Rattle.serving.specs.Serving.{unreplied}
+use Rattle.serving.proofs.TurnLemmas.{trace_begins}
+use Rattle.serving.specs.Turns.{LaneTurn}
 use Rattle.serving.specs.Accounts.{IsReadyLane, lane_claims}
 use Rattle.serving.specs.Lanes.{LaneValue}
 use Rattle.lane_tasks.specs.Tasks.{IsReadyTask, claims_at}
 use Rattle.lane_tasks.specs.declared.task.Task.{Task}
+use Rattle.lanes.proofs.WorldLemmas.{one_none}
 use Rattle.lanes.specs.Rows.{LaneRow, lane_value, lanes_of}
 use Rattle.lanes.specs.Going.{IsGoing}
 use Rattle.lanes.specs.Worlds.{AreCounted, AreFreshParts, ArePartsOf, BeginsSome, IsFreshWorld, IsSoundWorld, IsWorldOf, PartsValue, WorldValue, queued_in, replied_in, turns_for}

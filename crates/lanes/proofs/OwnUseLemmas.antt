@@ -1,7 +1,6 @@
 -- Which events of a legal run use instances: only those of a delivery find or place them, and only those of a fetch pin them.
 use Rattle.std.proofs.Common.{◌≡◌, ◌||◌, ℕ, true, false, List, [], Option, Some, None, refl, sym, ◌∙◌, ap}
 use Rattle.std.specs.List.{list_any}
-use Rattle.lane_tasks.proofs.FilesLemmas.{touches_none}
 use Rattle.mdbox_base.specs.declared.entries.InstRow.{InstRow}
 use Rattle.mdbox_base.specs.declared.ids.Uid.{Uid}
 use Rattle.mdbox_base.specs.declared.replies.Refusal.{Refusal}
@@ -11,6 +10,7 @@ use Rattle.model_lists.specs.Lists.{Lists}
 use Rattle.list_machine.specs.Run.{Compares, CopiesMessage, EventPart, First, GivesBack, Last, MakesTarget, Pin, PlacesInstance, PlacesMessage, RemovesFile, RemovesInstance, RunEvent, Run, StoresRecord, Switches, TakesFile}
 use Rattle.journal.specs.Events.{Around, DidDeliver, DidFetch, DidNothing, DidPart, DidPurge, IsEvent}
 use Rattle.journal.specs.Found.{is_same_instance}
+use Rattle.lane_tasks.proofs.FilesLemmas.{touches_none}
 use Rattle.lane_tasks.specs.Uses.{finds_instance, pins_instance}
 
 -- ---- one event

@@ -5,7 +5,6 @@ use Rattle.std.proofs.lemmas.List.{append_assoc, length-append, length-set, leng
 use Rattle.std.proofs.lemmas.List.Elements.{All-cons, All-head, All-nil, All-tail, All-same, All-weaker, All-map}
 use Rattle.std.proofs.lemmas.Option.{slice_get_within}
 use Rattle.std.proofs.lemmas.Bool.{eq-eqb, ne_eqb}
-use Rattle.lanes.proofs.GoingLemmas.{row_cases}
 use Rattle.attach_detach.specs.declared.message.Prepared.{Prepared}
 use Rattle.mdbox_base.specs.declared.replies.Reply.{Reply}
 use Rattle.mdbox_base.specs.declared.requests.Request.{Request}
@@ -14,6 +13,8 @@ use Rattle.serving.specs.Lanes.{queue_of}
 use Rattle.serving.proofs.LaneLemmas.{get_set_other, get_set_same, nat_cases, one_some}
 use Rattle.serving.proofs.ServingLemmas.{all_at}
 use Rattle.lane_tasks.specs.Tasks.{BeginsTask}
+use Rattle.lanes.proofs.WorldLemmas.{lane_back}
+use Rattle.lanes.proofs.GoingLemmas.{row_cases}
 use Rattle.lanes.specs.Going.{WaitsWithTask}
 use Rattle.lanes.specs.Rows.{LaneRow, queue_in}
 use Rattle.lanes.specs.Worlds.{AreFreshParts, AreGiven, AreOfLanes, ArePartsOf, AreRowsFrom, BeginsSome, HasItsMessage, IsRowFrom, empty_row, queued_in}
@@ -117,14 +118,11 @@ pub behind_more : (script : Requests) (lanes : ℕ) (old new : Requests) (lane :
 behind_more script lanes old new lane request rows row q behind is some here at begins = (
   (lane, request) ∷ behind.0,
   behind.1 ∙ (ap (λ (r : Requests). r ++ behind.0) is ∙ append_assoc new ((lane, request) ∷ []) behind.0),
-  subst (λ (n : ℕ). AreRowsFrom script lanes (length new) ((n, request) ∷ behind.0) (slice_set rows (lane - 1) (record { current = Some q; waiting = queued_in row }))) number
-      (rows_more script behind.0 lanes (lane - 1) (length new) request rows row q here at (subst (λ (n : ℕ). slice_get script (length new) ≡ Some (n, request)) (sym number) (last_asked script lanes old new (lane, request) rows behind is)) begins
+  subst (λ (n : ℕ). AreRowsFrom script lanes (length new) ((n, request) ∷ behind.0) (slice_set rows (lane - 1) (record { current = Some q; waiting = queued_in row }))) (sym (lane_back lane some))
+      (rows_more script behind.0 lanes (lane - 1) (length new) request rows row q here at (subst (λ (n : ℕ). slice_get script (length new) ≡ Some (n, request)) (lane_back lane some) (last_asked script lanes old new (lane, request) rows behind is)) begins
       (subst (λ (n : ℕ). AreRowsFrom script lanes n behind.0 rows) longer behind.2)),
 )
   where
-    number : lane - 1 + 1 ≡ lane
-    number = omega (arith, some)
-
     longer : length old ≡ length new + 1
     longer = ap (λ (r : Requests). length r) is ∙ length-append new ((lane, request) ∷ [])
 

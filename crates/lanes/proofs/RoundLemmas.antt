@@ -3,7 +3,6 @@ use Rattle.std.proofs.Common.{◌≡◌, ◌<◌, ◌≤◌, ◌+◌, ◌-◌, �
 use Rattle.std.specs.Prelude.{◌⊎◌, length, nat_lt, slice_get}
 use Rattle.std.proofs.lemmas.List.{append-nil, append_assoc, length-set}
 use Rattle.std.proofs.lemmas.Bool.{cases_lt, cond-true, cond-false, lt-ltb, le-ltb}
-use Rattle.lane_tasks.proofs.StepLemmas.{ran_before}
 use Rattle.disk_model.specs.Disk.{Faults, History, told_calls}
 use Rattle.mdbox_base.specs.declared.replies.Reply.{Reply}
 use Rattle.mdbox_base.specs.declared.script.JournalEntry.{JournalEntry}
@@ -12,6 +11,7 @@ use Rattle.journal.specs.Journal.{HasReply, IsFirstPart, JournalStep}
 use Rattle.serving.specs.Lanes.{replies_behind}
 use Rattle.serving.proofs.LaneLemmas.{get_set_other, nat_cases, one_some}
 use Rattle.task_steps.specs.Step.{ended_by}
+use Rattle.lane_tasks.proofs.StepLemmas.{ran_before}
 use Rattle.lanes.specs.Rows.{LaneRow}
 use Rattle.lanes.specs.Turned.{GoesOnInOrder}
 use Rattle.lanes.specs.Worlds.{AreAdded, AreIdleBetween, GoesInRounds, GoesOnBy, IsIdleLane, IsLaneEvent, IsNextBusy, IsServedOn, IsWorldOf, KeepsWorld, WorldValue, and_events, turns_behind}
@@ -154,21 +154,7 @@ in_order_keeps [] old new before after first second g =
 in_order_keeps (lane ∷ lanes) old new before after first second g = keeps_then old g.0 new before g.1 after first g.2 second (event_keeps lane old g.0 before g.1 first g.2 g.3) (in_order_keeps lanes g.0 new g.1 after g.2 second g.5)
 
 pub rounds_keep_world : {D : Type 0} → (lanes : List ℕ) (old new : WorldValue D) (before after : Option History) (first second : Faults) → GoesOnBy lanes old new before after first second → KeepsWorld old new before after first second
-rounds_keep_world lanes old new before after first second g = let k = in_order_keeps lanes (as_finished old) new before after first second (in_order 0 lanes (as_finished old) new before after first second g) in record {
-  replies = k.replies;
-  requests = k.requests;
-  scripted = k.scripted;
-  lanes = k.lanes;
-  journal = k.journal;
-  broken = k.broken;
-  stopped = k.stopped;
-  grows = k.grows;
-  reads = k.reads;
-  changes = k.changes;
-  unfailed = k.unfailed;
-  began = k.began;
-  room = k.room;
-}
+rounds_keep_world lanes old new before after first second g = let k = in_order_keeps lanes (as_finished old) new before after first second (in_order 0 lanes (as_finished old) new before after first second g) in assumption k
 
 -- ---- the lane in turn
 

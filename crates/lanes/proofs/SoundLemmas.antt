@@ -4,7 +4,6 @@ use Rattle.std.specs.Prelude.{◌≢◌, All, is_some, length, slice_get}
 use Rattle.std.proofs.lemmas.List.{length-set}
 use Rattle.std.proofs.lemmas.Option.{slice_get_within, slice_get_read}
 use Rattle.std.proofs.lemmas.List.Elements.{All-cons, All-head, All-tail, All-nil}
-use Rattle.lane_tasks.proofs.StepLemmas.{ran_before}
 use Rattle.disk_model.specs.Disk.{Faults, History, IsMoment}
 use Rattle.mdbox_base.specs.declared.replies.Reply.{Reply}
 use Rattle.mdbox_base.specs.declared.script.JournalEntry.{JournalEntry}
@@ -14,9 +13,10 @@ use Rattle.serving.specs.Serving.{AreIdle}
 use Rattle.serving.proofs.LaneLemmas.{get_set_other, get_set_same, nat_cases, one_some}
 use Rattle.serving.proofs.ServingLemmas.{all_at}
 use Rattle.task_steps.specs.Step.{ended_by}
+use Rattle.store_core.specs.Value.{StoreValue}
+use Rattle.lane_tasks.proofs.StepLemmas.{ran_before}
 use Rattle.lane_tasks.specs.Tasks.{IsReadyTask, claims_at}
 use Rattle.lane_tasks.specs.declared.task.Task.{Task}
-use Rattle.store_core.specs.Value.{StoreValue}
 use Rattle.lanes.specs.Rows.{LaneRow, RowGoesOn, after_event, lane_value, lanes_of, queue_in}
 use Rattle.lanes.specs.Worlds.{AreAdded, AreIdleBetween, BeginsSome, IsIdleLane, IsSoundWorld, Works, WorldValue, entries_broken, entries_made, replied_behind, times_waiting}
 use Rattle.lanes.specs.declared.lane.LaneEvent.{LaneEvent}

@@ -124,9 +124,7 @@ spares_file (stage.Removing file given) event nothing = (
   ap (λ (e : RunEvent). list_any (λ (p : Pin). p.file == file.0) e.pins) nothing,
   ap (λ (e : RunEvent). is_one_of e.removed file.0) nothing,
 )
-spares_file stage.First event nothing = tt
-spares_file (stage.Reading region) event nothing = tt
-spares_file (stage.Unpinning from given) event nothing = tt
+spares_file now event nothing = tt
 
 -- it did nothing, and spares every file
 pub spares_all : (t : Task) (event : RunEvent) → DidNothing event → SparesTask t event

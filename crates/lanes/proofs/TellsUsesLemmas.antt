@@ -6,7 +6,6 @@ use Rattle.std.proofs.lemmas.Bool.{eq-eqb, eqb-true, and_parts, and_from, or_cas
 use Rattle.std.proofs.lemmas.List.Sums.{sum_by-cons}
 use Rattle.std.proofs.lemmas.Option.{slice_get_within}
 use Rattle.model_octets.proofs.SearchLemmas.{both_same}
-use Rattle.serving.proofs.TakenLemmas.{found_at, waiting_none, any_kept, one_of_all}
 use Rattle.disk_model.specs.Disk.{History}
 use Rattle.mdbox_base.specs.declared.entries.InstRow.{InstRow}
 use Rattle.mdbox_base.specs.declared.replies.Reply.{Reply}
@@ -24,6 +23,7 @@ use Rattle.storage_files.specs.Files.{is_emptied_in, is_taken_in}
 use Rattle.store_core.specs.Value.{StoreValue}
 use Rattle.task_claims.specs.Claims.{AddsUp, Claims, Emptied, Held, Taken, Thing, amount_in, one_if, total_claims}
 use Rattle.task_steps.specs.Step.{Seen}
+use Rattle.serving.proofs.TakenLemmas.{found_at, waiting_none, any_kept, one_of_all}
 use Rattle.serving.specs.Accounts.{LanesAccount, lane_claims}
 use Rattle.serving.specs.Lanes.{IsInTurn, LaneStands, LaneValue, said_by}
 use Rattle.serving.specs.Serving.{HaveLanes, IsServing}

@@ -3,7 +3,7 @@ use Rattle.std.proofs.Common.{◌≡◌, ◌≤◌, ◌&&◌, ◌||◌, ℕ, zer
 use Rattle.std.specs.Prelude.{◌≢◌, ◌⊎◌, is_none, slice_get, if◌then◌else◌}
 use Rattle.std.specs.List.{list_any}
 use Rattle.std.specs.Option.{IfSome, option_or}
-use Rattle.std.proofs.lemmas.Bool.{eq-eqb, ne_eqb, or_left, or_right}
+use Rattle.std.proofs.lemmas.Bool.{eq-eqb, ne_eqb, or_left, or_right, cases_cond}
 use Rattle.std.proofs.lemmas.List.{take_all}
 use Rattle.std.proofs.lemmas.List.Folds.{list_any-append}
 use Rattle.mdbox_base.specs.declared.entries.InstRow.{InstRow}
@@ -55,17 +55,15 @@ unpinned_last : (event : RunEvent) → event.part ≡ Unpins → event.refused �
 unpinned_last event part refused = ap (λ (o : Option Refusal). is_none o && is_unpinning_part event.part) refused ∙ ap is_unpinning_part part
 
 behind_one : (run : Run) (event : RunEvent) (now part : EventPart) → event.part ≡ now → event.refused ≡ None → behind_fetch run event now ≡ Some part → StandsBefore (event ∷ []) part
-behind_one run event Unpins part at none is = by_test (leaves_doomed event.request run) is
-  where
-    by_test : (b : Bool) → (if b then Some RemovesFile else None) ≡ Some part → StandsBefore (event ∷ []) part
-    by_test true e = subst (StandsBefore (event ∷ [])) (one_part RemovesFile part e) (ap (λ (b : Bool). b || false) (unpinned_last event at none))
-    by_test false e = no_part part e
+behind_one run event Unpins part at none is = elim (cases_cond (leaves_doomed event.request run) (Some RemovesFile) None (Some part) (sym is)) [
+  | inl e ↦ subst (StandsBefore (event ∷ [])) (one_part RemovesFile part (sym e)) (ap (λ (b : Bool). b || false) (unpinned_last event at none))
+  | inr e ↦ no_part part (sym e)
+]
 behind_one run event RemovesFile part at none is = no_part part is
-behind_one run event now part at none is = by_test (piece_left event.request run) is
-  where
-    by_test : (b : Bool) → (if b then Some ReadsPiece else Some Unpins) ≡ Some part → StandsBefore (event ∷ []) part
-    by_test true e = subst (StandsBefore (event ∷ [])) (one_part ReadsPiece part e) tt
-    by_test false e = subst (StandsBefore (event ∷ [])) (one_part Unpins part e) tt
+behind_one run event now part at none is = elim (cases_cond (piece_left event.request run) (Some ReadsPiece) (Some Unpins) (Some part) (sym is)) [
+  | inl e ↦ subst (StandsBefore (event ∷ [])) (one_part ReadsPiece part (sym e)) tt
+  | inr e ↦ subst (StandsBefore (event ∷ [])) (one_part Unpins part (sym e)) tt
+]
 
 behind_refusal : (event : RunEvent) (now part : EventPart) (why : Refusal) → behind_piece now why ≡ Some part → StandsBefore (event ∷ []) part
 behind_refusal event ReadsPiece part refusal.ReadFault is = subst (StandsBefore (event ∷ [])) (one_part Unpins part is) tt
@@ -229,8 +227,7 @@ let_at around after script start run journal place lane name uid next running as
 pub answered_holds_nothing : (around after : ℕ → Around) (script : Requests) (start : Lists) (run : Run) (journal : List JournalStep) (place lane : ℕ) (name : List ℕ) (uid : Uid) (given : Reply) → AreNextEvents around after script start run journal → NoneStopped run.events → slice_get script place ≡ Some (lane, request.Fetch name uid)
     → reply_of place run ≡ Some given → HoldsNothing (own_events place run)
 answered_holds_nothing around after script start run journal place lane name uid given next running asked answered =
-    by_case (subst (λ (events : List RunEvent). IsLet (record run { events = events }) place) (take_all (length run.events) run.events (omega arith)) (let_at around after script start run journal place lane name uid next running asked (length run.events) (omega arith)))
-  where
-    by_case : IsLet run place → HoldsNothing (own_events place run)
-    by_case (inl none) = absurd (let k : None ≡ Some given = sym none ∙ answered in cc k)
-    by_case (inr holds) = holds
+    elim (subst (λ (events : List RunEvent). IsLet (record run { events = events }) place) (take_all (length run.events) run.events (omega arith)) (let_at around after script start run journal place lane name uid next running asked (length run.events) (omega arith))) [
+      | inl none ↦ absurd (let k : None ≡ Some given = sym none ∙ answered in cc k)
+      | inr holds ↦ holds
+    ]

@@ -67,9 +67,7 @@ left_behind last (Some given) place replies there only = λ i is. elim (nat_case
 
 made_own : (how : Did) (lane place calls last : ℕ) → place ≡ last → All (λ entry. entry.request ≡ last) (entries_made how lane place calls)
 made_own (did.Step half) lane place calls last is = All-cons (λ (entry : JournalEntry). entry.request ≡ last) (record { lane = lane; request = place; half = half; calls = calls }) [] is (All-nil (λ (entry : JournalEntry). entry.request ≡ last))
-made_own did.Quiet lane place calls last is = All-nil (λ (entry : JournalEntry). entry.request ≡ last)
-made_own did.Failed lane place calls last is = All-nil (λ (entry : JournalEntry). entry.request ≡ last)
-made_own (did.Broken half) lane place calls last is = All-nil (λ (entry : JournalEntry). entry.request ≡ last)
+made_own how lane place calls last is = All-nil (λ (entry : JournalEntry). entry.request ≡ last)
 
 added_own : (Room : Type 0) (how : Did) (lane place calls last : ℕ) (entries now : List JournalEntry) → place ≡ last → AreAdded Room (entries_made how lane place calls) entries now → (more : List JournalEntry) × (now ≡ entries ++ more) × All (λ entry. entry.request ≡ last) more
 added_own Room how lane place calls last entries now is added = elim added.some [

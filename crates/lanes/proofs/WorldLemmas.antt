@@ -77,9 +77,7 @@ one_made history began later lane place half run added (s ∷ more) small is at 
 made_entries : (history : Option History) (began later lane place : ℕ) (how : Did) (run : Run) (added : RunEvent) (more : List JournalStep) → began ≤ 2 ^ 64 - 1 → IsMoment history later → added.moment ≡ told_calls history → map (λ (s : JournalStep). s.half) more ≡ halves_told how → All (IsStepOf lane place run) more
     → AreEntriesAt history began (moment_of (and_then run added)) more (entries_made how lane place (later - began))
 made_entries history began later lane place (did.Step half) run added more small is at halves are = one_made history began later lane place half run added more small is at halves are
-made_entries history began later lane place did.Quiet run added more small is at halves are = none_made history began (moment_of (and_then run added)) more halves
-made_entries history began later lane place did.Failed run added more small is at halves are = none_made history began (moment_of (and_then run added)) more halves
-made_entries history began later lane place (did.Broken half) run added more small is at halves are = none_made history began (moment_of (and_then run added)) more halves
+made_entries history began later lane place how run added more small is at halves are = none_made history began (moment_of (and_then run added)) more halves
 
 all_stay : (run : Run) (added : RunEvent) (steps : List JournalStep) → All (λ s. s.event < length run.events) steps → All (λ s. moment_of run s ≡ moment_of (and_then run added) s) steps
 all_stay run added = All-weaker (λ (x : JournalStep). x.event < length run.events) (λ (x : JournalStep). moment_of run x ≡ moment_of (and_then run added) x) (moment_stays run added)
@@ -134,9 +132,7 @@ broken_on before after began earlier lane place (did.Broken half) run added fail
 
     new_is : new ≡ record { lane = lane; request = place; half = half; calls = earlier - began } ∷ []
     new_is = let e = empty old none in more (let l : length old ≡ 0 = ap length e in omega (arith, l)) ∙ ap (λ (es : List JournalEntry). es ++ record { lane = lane; request = place; half = half; calls = earlier - began } ∷ []) e
-broken_on before after began earlier lane place did.Quiet run added failed broke old new small is on at told breaks once entries same more = still before after began failed broke old new told breaks entries (same refl)
-broken_on before after began earlier lane place (did.Step half) run added failed broke old new small is on at told breaks once entries same more = still before after began failed broke old new told breaks entries (same refl)
-broken_on before after began earlier lane place did.Failed run added failed broke old new small is on at told breaks once entries same more = still before after began failed broke old new told breaks entries (same refl)
+broken_on before after began earlier lane place how run added failed broke old new small is on at told breaks once entries same more = still before after began failed broke old new told breaks entries (same refl)
 
 -- ---- counts
 
@@ -290,7 +286,8 @@ works_by {D} k old new before after first second w clock few start script run st
 
 -- ---- what a world's own calls make of it
 
-lane_back : (n : ℕ) → 1 ≤ n → n ≡ n - 1 + 1
+-- the number of a lane, from its place
+pub lane_back : (n : ℕ) → 1 ≤ n → n ≡ n - 1 + 1
 lane_back n some = omega (arith, some)
 
 -- the entries of an event are those that the lane's number and the moment give

@@ -1,7 +1,7 @@
 use Rattle.std.proofs.Common.{◌≡◌, ◌<◌, ◌+◌, ◌-◌, ◌++◌, ◌∷◌, [], ℕ, false, List, length, slice_get, Option, Some, None, sym, ◌∙◌, ap, subst, arith}
 use Rattle.std.proofs.lemmas.List.{length-append, length-set}
-use Rattle.lanes.proofs.SoundLemmas.{row_read}
 use Rattle.mdbox_base.specs.declared.replies.Reply.{Reply}
+use Rattle.lanes.proofs.SoundLemmas.{row_read}
 use Rattle.lanes.specs.Asked.{world_asked}
 use Rattle.lanes.specs.Worlds.{IsSoundWorld, WorldValue}
 use Rattle.lanes.proofs.AskLemmas.{sound_asked, world_set}
