@@ -1,8 +1,8 @@
 -- Events of requests that read or change mailboxes take no storage file.
-use Rattle.lane_tasks.proofs.Common.{◌≡◌, ◌==◌, ℕ, false, List, [], ◌∷◌, Option, Some, None, refl, sym, ap, subst, ◌≢◌, ◌&&◌, ◌||◌, All, is_none, list_any, eq-eqb, ne_eqb, All-head, All-tail, Uid, Refusal, Request, Lists, EventPart, First, RunEvent, Run, TakenFile, and_then, own_events}
+use Rattle.lane_tasks.proofs.Common.{◌≡◌, ◌==◌, ℕ, false, List, [], Option, Some, None, refl, sym, ap, subst, ◌≢◌, ◌&&◌, ◌||◌, All, is_none, list_any, eq-eqb, ne_eqb, Uid, Refusal, Request, Lists, EventPart, First, RunEvent, Run, TakenFile, and_then, own_events}
 use Rattle.lane_tasks.proofs.Common.{Around, took_file, own_more, own_other, TookNoFile}
-use Rattle.std.proofs.lemmas.List.Elements.{All-push}
-use Rattle.std.proofs.lemmas.Bool.{or_from}
+use Rattle.std.proofs.lemmas.List.Elements.{All-push, All-weaker}
+use Rattle.std.proofs.lemmas.List.Folds.{list_any_none}
 use Rattle.mdbox_base.specs.declared.requests.Request.TheVariants as request
 use Rattle.model_lists.specs.Lists.{ListedMessage}
 use Rattle.list_machine.specs.Machine.{message_numbered}
@@ -85,5 +85,4 @@ one_not_taken file None files none = ap (λ (ts : List TakenFile). list_any (λ 
 one_not_taken file (Some why) files none = refl
 
 pub none_taken : (file : ℕ) (own : List RunEvent) → All TookNone own → list_any (took_file file) own ≡ false
-none_taken file [] all = refl
-none_taken file (e ∷ rest) all = or_from (took_file file e) (list_any (took_file file) rest) (one_not_taken file e.refused e.files (All-head TookNone e rest all)) (none_taken file rest (All-tail TookNone e rest all))
+none_taken file own all = list_any_none (took_file file) own (All-weaker TookNone (λ event. took_file file event ≡ false) (λ event none. one_not_taken file event.refused event.files none) own all)

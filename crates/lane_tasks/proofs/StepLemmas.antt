@@ -2,7 +2,7 @@
 use Rattle.lane_tasks.proofs.Common.{◌≡◌, ◌<◌, ℕ, Bool, true, false, List, Option, Some, None, refl, sym, ◌∙◌, ap, subst, arith, ◌≤◌, History, Faults, Uid, Progress, Refusal, Reply, Request, Lists, MapMeaning, Run, RunEvent, and_then, Around, AreFilesInOrder, IsStore, StoreValue, ended_by}
 use Rattle.lane_tasks.proofs.Common.{MakeAnswers, IsAt, MakeStage, IsAtFetch, FetchStage, save_claims, SaveEffects, IsAtSave, IsReadyToDeliver, SaveValue, PurgeValue, IsMakeNumber, TookNoFile, work_left, Task}
 use Rattle.std.proofs.Common.{◌-◌}
-use Rattle.std.specs.Prelude.{◌==◌, is_some}
+use Rattle.std.specs.Prelude.{◌==◌, is_some, ◌↔◌}
 use Rattle.std.proofs.lemmas.Bool.{eqb-true}
 use Rattle.mdbox_base.specs.declared.entries.Highest.{Highest}
 use Rattle.mdbox_base.specs.declared.progress.Did.{Did}
@@ -38,7 +38,6 @@ use Rattle.mail_fetch.specs.Task.{FetchValue, seen_in}
 use Rattle.mail_fetch.specs.declared.task.FetchStage.TheVariants as fetch_stage
 use Rattle.mail_save.specs.Ready.{IsReadyToSave}
 use Rattle.mail_save.specs.SaveSeen.{HasItsParts, StepsWithRoom, around_saving}
-use Rattle.mail_save.specs.Task.{EndsSave}
 use Rattle.mail_save.proofs.SavePartLemmas.{ready_has_parts}
 use Rattle.purge_task.specs.Clause.{PurgeSteps, TellsUses, around_purging}
 use Rattle.purge_task.specs.Stages.{IsAtPurge}
@@ -225,9 +224,7 @@ make_fewer name t u old new before after answer said more fewer =
 
 pub use_room : {D : Type 0} → (now : FetchStage) (store : StoreValue D) → HasUseRoom store → HasFetchRoom now store
 use_room fetch_stage.First store room = room
-use_room (fetch_stage.Reading region) store room = tt
-use_room (fetch_stage.Unpinning from given) store room = tt
-use_room (fetch_stage.Removing file given) store room = tt
+use_room now store room = tt
 
 fetch_request : (t u : FetchValue) → (u.name ≡ t.name) × (u.uid ≡ t.uid) → request.Fetch t.name t.uid ≡ request.Fetch u.name u.uid
 fetch_request t u e = let n = e.0 in let i = e.1 in cc (n, i)
@@ -422,9 +419,9 @@ request_stays (task.Purge t) (task.Purge next) asked same is = is
 request_stays t next asked same is = absurd same
 
 -- one that goes on ran in a store that runs
-pub deliver_ran : {D : Type 0} → (old new : StoreValue D) (answer : Progress) → EndsSave answer old new → answer ≡ progress.More → old.stopped ≡ false
-deliver_ran old new answer ends more = by_test new.stopped refl
+pub more_ran : {D : Type 0} → (old new : StoreValue D) (answer : Progress) → ((answer ≡ progress.Done (reply.Refused refusal.Stopped)) ↔ (new.stopped ≡ true)) → (old.stopped ≡ true → new ≡ old) → answer ≡ progress.More → old.stopped ≡ false
+more_ran old new answer halts still more = by_test new.stopped refl
   where
     by_test : (b : Bool) → new.stopped ≡ b → old.stopped ≡ false
-    by_test true is = absurd (let k : progress.More ≡ progress.Done (reply.Refused refusal.Stopped) = sym more ∙ ends.stopped.1 is in cc k)
-    by_test false is = ran_before old.stopped new.stopped (λ stopped. ap (λ (s : StoreValue _). s.stopped) (ends.still stopped) ∙ stopped) is
+    by_test true is = absurd (let k : progress.More ≡ progress.Done (reply.Refused refusal.Stopped) = sym more ∙ halts.1 is in cc k)
+    by_test false is = ran_before old.stopped new.stopped (stays_stopped old new still) is

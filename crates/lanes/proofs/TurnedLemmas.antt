@@ -91,21 +91,7 @@ idle_world lane start script run steps failed began then counted old some none i
 
 -- a turn more in a world's trace, which is all that changes
 keeps_traced : {D : Type 0} → (world : WorldValue D) (turns : List LaneTurn) (history : Option History) (faults : Faults) → KeepsWorld world (record world { turns = turns }) history history faults faults
-keeps_traced world turns history faults = let k = keeps_itself world history faults in record {
-  replies = k.replies;
-  requests = k.requests;
-  scripted = k.scripted;
-  lanes = k.lanes;
-  journal = k.journal;
-  broken = k.broken;
-  stopped = k.stopped;
-  grows = k.grows;
-  reads = k.reads;
-  changes = k.changes;
-  unfailed = k.unfailed;
-  began = k.began;
-  room = k.room;
-}
+keeps_traced world turns history faults = let k = keeps_itself world history faults in assumption k
 
 module _ {D : Type 0} (history : D → Option History) (faults : D → Faults) where
   -- ---- one more
