@@ -21,6 +21,7 @@ use Rattle.store_open.proofs.SweptStoreLemmas.{carries-idle}
 use Rattle.store_open.specs.declared.error.OpenError.{OpenError}
 use Rattle.store_open.specs.declared.error.OpenError.TheVariants as error
 use Rattle.request_text.specs.Outcomes.{status_of, reply_outcome}
+use Rattle.request_text.specs.ReplyText.{IsLong}
 use Rattle.request_text.specs.declared.outcome.InputRefusal.{InputRefusal}
 use Rattle.request_text.specs.declared.outcome.StoreRefusal.{StoreRefusal}
 use Rattle.request_text.specs.declared.outcome.Outcome.{Outcome}
