@@ -67,18 +67,20 @@ either_log head entries more block gate hf ef b = elim (cases_eq gate 1) [
 
 pub record Before (log : LogState) (entries : List (List ℕ)) (f : FileState) : Type 0 where
   pub end : log.end ≡ length (log_front log.head entries)
+  pub count : log.count ≡ length entries
   pub head_fits : HeadFits log.head
   pub entries_fit : All EntryFits entries
   pub keeps : Keeps f (log_text log.head entries)
 
 pub record Between (log : LogState) (entries : List (List ℕ)) (block : List ℕ) (f : FileState) : Type 0 where
   pub end : log.end ≡ length (log_front log.head entries)
+  pub count : log.count ≡ length entries
   pub head_fits : HeadFits log.head
   pub entries_fit : All EntryFits entries
   pub keeps : Keeps f (log_front log.head entries ++ 0 ∷ block)
 
 held-before : (log : LogState) (entries : List (List ℕ)) (old : Option History) → Holds log entries old → IfTold old (λ disk. Before log entries (disk log.name))
-held-before log entries old h = if_told-map _ _ old (λ disk k. record { end = k.reads.end; head_fits = k.reads.head_fits; entries_fit = k.reads.entries_fit; keeps = k.keeps }) h
+held-before log entries old h = if_told-map _ _ old (λ disk k. record { end = k.reads.end; count = k.reads.count; head_fits = k.reads.head_fits; entries_fit = k.reads.entries_fit; keeps = k.keeps }) h
 
 abbrev P : LogHead → List (List ℕ) → List (List ℕ) → Option (List ℕ) → Type 0
 P head entries more octets = IsLogWithOrWithoutAll head entries more octets
@@ -121,6 +123,7 @@ first_state log entries more block f b s =
     let at : length (log_text log.head entries) ≡ log.end + 1 = text_length log.head entries ∙ ap (λ (n : ℕ). n + 1) (sym s.end) in
     record {
       end = s.end;
+      count = s.count;
       head_fits = s.head_fits;
       entries_fit = s.entries_fit;
       keeps = subst (λ (n : ℕ). Keeps (synced (written n block f)) (log_front log.head entries ++ 0 ∷ block)) at (keeps_from_firm _ _ (first_firm log.head entries more block f b k));
@@ -213,9 +216,14 @@ goes_well log entries more block old h1 h2 h3 new b h is1 is2 is3 is4 =
 
 -- after Ok
 
--- the log with so many octets more
-abbrev pub grown : LogState → ℕ → LogState
-grown log size = record log { end = log.end + size }
+-- the log with so many octets and entries more
+abbrev pub grown : LogState → ℕ → ℕ → LogState
+grown log size count = record log { end = log.end + size; count = log.count + count }
+
+-- they are as many as are laid out
+pub record IsGrowth (more : List (List ℕ)) (block : List ℕ) (size count : ℕ) : Type 0 where
+  pub size_is : size ≡ length block
+  pub count_is : count ≡ length more
 
 grown_end : (log : LogState) (entries more : List (List ℕ)) (block : List ℕ) → IsLaidOut more block → log.end ≡ length (log_front log.head entries) → log.end + length block ≡ length (log_front log.head (entries ++ more))
 grown_end log entries more block b e =
@@ -223,35 +231,38 @@ grown_end log entries more block b e =
     let s : length (1 ∷ block) ≡ length (opened more) + 1 = ap length b.is ∙ length-append (opened more) (0 ∷ []) in
     omega (arith, l, s, e)
 
-pub grown_read : (log : LogState) (entries more : List (List ℕ)) (block : List ℕ) → IsLaidOut more block → (size : ℕ) → size ≡ length block → (disk : DiskState) → log.end ≡ length (log_front log.head entries) → HeadFits log.head
-    → All EntryFits entries → reading (disk log.name) ≡ Some (log_text log.head (entries ++ more)) → IsLogRead (grown log size) (entries ++ more) disk
-grown_read log entries more block b size long disk e hf ef r = record {
+pub grown_read : (log : LogState) (entries more : List (List ℕ)) (block : List ℕ) → IsLaidOut more block → (size count : ℕ) → IsGrowth more block size count → (disk : DiskState) → log.end ≡ length (log_front log.head entries) → log.count ≡ length entries → HeadFits log.head
+    → All EntryFits entries → reading (disk log.name) ≡ Some (log_text log.head (entries ++ more)) → IsLogRead (grown log size count) (entries ++ more) disk
+grown_read log entries more block b size count growth disk e is_count hf ef r = record {
   file = r;
-  end = ap (λ (n : ℕ). log.end + n) long ∙ grown_end log entries more block b e;
+  end = ap (λ (n : ℕ). log.end + n) growth.size_is ∙ grown_end log entries more block b e;
+  count = omega (arith, is_count, growth.count_is, length-append entries more);
   head_fits = hf;
   entries_fit = All-append EntryFits entries more ef b.fit;
 }
 
 pub record Held (log : LogState) (entries more : List (List ℕ)) (f : FileState) : Type 0 where
   pub end : log.end ≡ length (log_front log.head entries)
+  pub count : log.count ≡ length entries
   pub head_fits : HeadFits log.head
   pub entries_fit : All EntryFits entries
   pub keeps : Keeps f (log_text log.head (entries ++ more))
 
-pub holds_then : (log : LogState) (entries more : List (List ℕ)) (block : List ℕ) (old h1 h2 h3 new : Option History) → IsLaidOut more block → (size : ℕ) → size ≡ length block → Holds log entries old
+pub holds_then : (log : LogState) (entries more : List (List ℕ)) (block : List ℕ) (old h1 h2 h3 new : Option History) → IsLaidOut more block → (size count : ℕ) → IsGrowth more block size count → Holds log entries old
     → h1 ≡ after (change log.name (written (log.end + 1) block)) old → h2 ≡ after (change log.name synced) h1
-    → h3 ≡ after (change log.name (written log.end (1 ∷ []))) h2 → new ≡ after (change log.name synced) h3 → Holds (grown log size) (entries ++ more) new
-holds_then log entries more block old h1 h2 h3 new b size long h is1 is2 is3 is4 =
+    → h3 ≡ after (change log.name (written log.end (1 ∷ []))) h2 → new ≡ after (change log.name synced) h3 → Holds (grown log size count) (entries ++ more) new
+holds_then log entries more block old h1 h2 h3 new b size count growth h is1 is2 is3 is4 =
     let k : IfTold new (λ disk. Held log entries more (disk log.name)) =
     state log.name (Between log entries block) (Held log entries more) (written log.end (1 ∷ [])) h2 h3 new is3 is4
-    (λ f s. record { end = s.end; head_fits = s.head_fits; entries_fit = s.entries_fit; keeps = second_state log entries more block f b s })
+    (λ f s. record { end = s.end; count = s.count; head_fits = s.head_fits; entries_fit = s.entries_fit; keeps = second_state log entries more block f b s })
     (mid-state log entries more block old h1 h2 b h is1 is2) in
-    if_told-map _ _ new (λ disk s. record { reads = grown_read log entries more block b size long disk s.end s.head_fits s.entries_fit s.keeps.reads; keeps = s.keeps }) k
+    if_told-map _ _ new (λ disk s. record { reads = grown_read log entries more block b size count growth disk s.end s.count s.head_fits s.entries_fit s.keeps.reads; keeps = s.keeps }) k
 
 -- the same where the disk reads the log
 
 pub record Read (log : LogState) (entries : List (List ℕ)) (octets : List ℕ) (f : FileState) : Type 0 where
   pub end : log.end ≡ length (log_front log.head entries)
+  pub count : log.count ≡ length entries
   pub head_fits : HeadFits log.head
   pub entries_fit : All EntryFits entries
   pub there : f.is_there ≡ true
@@ -260,7 +271,7 @@ pub record Read (log : LogState) (entries : List (List ℕ)) (octets : List ℕ)
 pub read_file : (log : LogState) (entries : List (List ℕ)) (disk : DiskState) → IsLogRead log entries disk → Read log entries (log_text log.head entries) (disk log.name)
 read_file log entries disk r =
     let t = reads_there (disk log.name) (log_text log.head entries) r.file in
-    record { end = r.end; head_fits = r.head_fits; entries_fit = r.entries_fit; there = t.0; octets_are = t.1 }
+    record { end = r.end; count = r.count; head_fits = r.head_fits; entries_fit = r.entries_fit; there = t.0; octets_are = t.1 }
 
 read-before : (log : LogState) (entries : List (List ℕ)) (old : Option History) → Reads log entries old → IfTold old (λ disk. Read log entries (log_text log.head entries) (disk log.name))
 read-before log entries old h = if_told-map _ _ old (λ disk r. read_file log entries disk r) h
@@ -270,6 +281,7 @@ first_read log entries more block f r =
     let at : length (log_text log.head entries) ≡ log.end + 1 = text_length log.head entries ∙ ap (λ (n : ℕ). n + 1) (sym r.end) in
     record {
       end = r.end;
+      count = r.count;
       head_fits = r.head_fits;
       entries_fit = r.entries_fit;
       there = r.there;
@@ -280,6 +292,7 @@ pub second_read : (log : LogState) (entries more : List (List ℕ)) (block : Lis
 second_read log entries more block f b r =
     record {
       end = r.end;
+      count = r.count;
       head_fits = r.head_fits;
       entries_fit = r.entries_fit;
       there = r.there;
@@ -287,7 +300,7 @@ second_read log entries more block f b r =
     }
 
 pub synced_read : (log : LogState) (entries : List (List ℕ)) (octets : List ℕ) (f : FileState) → Read log entries octets f → Read log entries octets (synced f)
-synced_read log entries octets f r = record { end = r.end; head_fits = r.head_fits; entries_fit = r.entries_fit; there = r.there; octets_are = r.octets_are }
+synced_read log entries octets f r = record { end = r.end; count = r.count; head_fits = r.head_fits; entries_fit = r.entries_fit; there = r.there; octets_are = r.octets_are }
 
 pub read_1 : (log : LogState) (entries more : List (List ℕ)) (block : List ℕ) (old h1 : Option History) → Reads log entries old
     → h1 ≡ after (change log.name (written (log.end + 1) block)) old → IfTold h1 (λ disk. Read log entries (log_front log.head entries ++ 0 ∷ block) (disk log.name))
@@ -305,14 +318,14 @@ pub read_3 : (log : LogState) (entries more : List (List ℕ)) (block : List ℕ
 read_3 log entries more block old h1 h2 h3 b h is1 is2 is3 =
     changed_state log.name (Read log entries (log_front log.head entries ++ 0 ∷ block)) (Read log entries (log_text log.head (entries ++ more))) (written log.end (1 ∷ [])) h2 h3 is3 (λ f r. second_read log entries more block f b r) (read_2 log entries more block old h1 h2 h is1 is2)
 
-pub reads_then : (log : LogState) (entries more : List (List ℕ)) (block : List ℕ) (old h1 h2 h3 new : Option History) → IsLaidOut more block → (size : ℕ) → size ≡ length block → Reads log entries old
+pub reads_then : (log : LogState) (entries more : List (List ℕ)) (block : List ℕ) (old h1 h2 h3 new : Option History) → IsLaidOut more block → (size count : ℕ) → IsGrowth more block size count → Reads log entries old
     → h1 ≡ after (change log.name (written (log.end + 1) block)) old → h2 ≡ after (change log.name synced) h1
-    → h3 ≡ after (change log.name (written log.end (1 ∷ []))) h2 → new ≡ after (change log.name synced) h3 → Reads (grown log size) (entries ++ more) new
-reads_then log entries more block old h1 h2 h3 new b size long h is1 is2 is3 is4 =
+    → h3 ≡ after (change log.name (written log.end (1 ∷ []))) h2 → new ≡ after (change log.name synced) h3 → Reads (grown log size count) (entries ++ more) new
+reads_then log entries more block old h1 h2 h3 new b size count growth h is1 is2 is3 is4 =
     let k : IfTold new (λ disk. Read log entries (log_text log.head (entries ++ more)) (disk log.name)) =
     changed_state log.name (Read log entries (log_text log.head (entries ++ more))) (Read log entries (log_text log.head (entries ++ more))) synced h3 new is4
     (λ f r. synced_read log entries (log_text log.head (entries ++ more)) f r) (read_3 log entries more block old h1 h2 h3 b h is1 is2 is3) in
-    if_told-map _ _ new (λ disk r. grown_read log entries more block b size long disk r.end r.head_fits r.entries_fit (reading_from_there (disk log.name) r.there ∙ ap Some r.octets_are)) k
+    if_told-map _ _ new (λ disk r. grown_read log entries more block b size count growth disk r.end r.count r.head_fits r.entries_fit (reading_from_there (disk log.name) r.there ∙ ap Some r.octets_are)) k
 
 -- what the calls ask
 

@@ -1,5 +1,5 @@
 -- Drafts: logs to which entries are added with no sync, and which are synced once.
-use Rattle.std.proofs.Common.{◌≡◌, ℕ, ◌+◌, List, [], ◌∷◌, ◌++◌, length, Option, Some, false, ap, subst, ◌∙◌}
+use Rattle.std.proofs.Common.{◌≡◌, ℕ, ◌+◌, List, [], ◌∷◌, ◌++◌, Option, Some, false, ap, subst, ◌∙◌}
 use Rattle.disk_model.specs.Disk.{FileState, History, Keeps, IfTold, after, change, written, synced}
 use Rattle.disk_model.proofs.MomentLemmas.{if_told-map}
 use Rattle.disk_model.proofs.ChangeAndSyncLemmas.{changed_state}
@@ -7,7 +7,7 @@ use Rattle.disk_model.proofs.FirmLemmas.{firm_from_keeps, keeps_from_firm, synce
 use Rattle.model_logs.specs.LogFile.{log_front}
 use Rattle.gate_log.specs.State.{LogState}
 use Rattle.gate_log.specs.Log.{log_text, Holds, Drafts}
-use Rattle.gate_log.proofs.AppendLemmas.{AreOctets, IsLaidOut, Read, read_file, first_read, second_read, synced_read, closed_octets, open_octets, new_text, grown, grown_read}
+use Rattle.gate_log.proofs.AppendLemmas.{AreOctets, IsLaidOut, Read, read_file, first_read, second_read, synced_read, closed_octets, open_octets, new_text, IsGrowth, grown, grown_read}
 
 -- the file reads these octets, and its name is synced
 pub record IsDraftFile (log : LogState) (entries : List (List ℕ)) (octets : List ℕ) (f : FileState) : Type 0 where
@@ -32,15 +32,15 @@ second_draft log entries more block f b d = record {
   are_octets = subst AreOctets (new_text log.head entries more block b) (open_octets log.head entries more block b d.are_octets);
 }
 
-pub extended : (log : LogState) (entries more : List (List ℕ)) (block : List ℕ) (old mid new : Option History) → IsLaidOut more block → (size : ℕ) → size ≡ length block → Drafts log entries old
-    → mid ≡ after (change log.name (written (log.end + 1) block)) old → new ≡ after (change log.name (written log.end (1 ∷ []))) mid → Drafts (grown log size) (entries ++ more) new
-extended log entries more block old mid new b size long h is1 is2 =
+pub extended : (log : LogState) (entries more : List (List ℕ)) (block : List ℕ) (old mid new : Option History) → IsLaidOut more block → (size count : ℕ) → IsGrowth more block size count → Drafts log entries old
+    → mid ≡ after (change log.name (written (log.end + 1) block)) old → new ≡ after (change log.name (written log.end (1 ∷ []))) mid → Drafts (grown log size count) (entries ++ more) new
+extended log entries more block old mid new b size count growth h is1 is2 =
     let k : IfTold new (λ disk. IsDraftFile log entries (log_text log.head (entries ++ more)) (disk log.name)) =
     changed_state log.name (IsDraftFile log entries (log_front log.head entries ++ 0 ∷ block)) (IsDraftFile log entries (log_text log.head (entries ++ more))) (written log.end (1 ∷ [])) mid new is2 (λ f d. second_draft log entries more block f b d)
     (changed_state log.name (IsDraftFile log entries (log_text log.head entries)) (IsDraftFile log entries (log_front log.head entries ++ 0 ∷ block)) (written (log.end + 1) block) old mid is1 (λ f d. first_draft log entries more block f b d)
     (draft-before log entries old h)) in
     if_told-map _ _ new (λ disk d. record {
-      reads = grown_read log entries more block b size long disk d.read.end d.read.head_fits d.read.entries_fit (reading_from_there (disk log.name) d.read.there ∙ ap Some d.read.octets_are);
+      reads = grown_read log entries more block b size count growth disk d.read.end d.read.count d.read.head_fits d.read.entries_fit (reading_from_there (disk log.name) d.read.there ∙ ap Some d.read.octets_are);
       named = d.named;
       are_octets = d.are_octets;
     }) k
@@ -65,6 +65,7 @@ settled log entries old new h is =
       reads = record {
         file = reading_from_there (disk log.name) s.read.there ∙ ap Some s.read.octets_are;
         end = s.read.end;
+        count = s.read.count;
         head_fits = s.read.head_fits;
         entries_fit = s.read.entries_fit;
       };

@@ -14,6 +14,7 @@ log_text head entries = log_front head entries ++ 0 ∷ []
 pub record IsLogRead (log : LogState) (entries : List (List ℕ)) (disk : DiskState) : Type 0 where
   pub file : reading (disk log.name) ≡ Some (log_text log.head entries)
   pub end : log.end ≡ length (log_front log.head entries)
+  pub count : log.count ≡ length entries
   pub head_fits : HeadFits log.head
   pub entries_fit : All EntryFits entries
 
@@ -97,12 +98,14 @@ pub record IsDurable (name : FileName) (head : LogHead) (entries : List (List �
 
 -- the file stands as it was found, with these entries
 pub record IsFound (found : InspectedLog) (entries : List (List ℕ)) (disk : DiskState) : Type 0 where
+  pub count : found.count ≡ length entries
   pub rest : List ℕ
   pub behind : found.behind ≡ length rest
   pub stands : IsStanding found.name found.head entries found.end found.gate rest disk
 
 -- and a crash leaves it so
 pub record IsFoundKept (found : InspectedLog) (entries : List (List ℕ)) (disk : DiskState) : Type 0 where
+  pub count : found.count ≡ length entries
   pub rest : List ℕ
   pub behind : found.behind ≡ length rest
   pub kept : IsDurable found.name found.head entries found.end found.gate rest disk

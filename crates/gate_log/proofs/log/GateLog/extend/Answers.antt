@@ -1,22 +1,26 @@
-use Rattle.std.proofs.Common.{◌≡◌, ◌≤◌, length, take, sym, ap, subst, ◌∙◌, arith}
+use Rattle.std.proofs.Common.{◌≤◌, length, take, sym, ap, subst, ◌∙◌, arith}
 use Rattle.std.proofs.lemmas.List.{length-take-le}
 use Rattle.disk_model.proofs.OtherFileLemmas.{Apart, apart_begins, apart_goes_on, apart_fails, apart_images}
 use Rattle.gate_log.specs.State.{LogState}
 use Rattle.gate_log.specs.Log.{Reads, cut_by}
 use Rattle.gate_log.specs.contracts.log.GateLog.{the_view}
 use Rattle.gate_log.proofs.HeadLemmas.{octets_of}
-use Rattle.gate_log.proofs.AppendLemmas.{IsLaidOut, laid_out, read_1, ask_3}
+use Rattle.gate_log.proofs.LayoutLemmas.{cut_count}
+use Rattle.gate_log.proofs.AppendLemmas.{IsLaidOut, IsGrowth, laid_out, read_1, ask_3}
 use Rattle.gate_log.proofs.DraftLemmas.{extended}
 use Rattle.gate_log.proofs.log.GateLog.extend.Given.{Over}
 use Rattle.gate_log.proofs.log.GateLog.extend.Goals.{After-deref, In_ok-write_at, In_ok-write_at-2}
 use Rattle.gate_log.proofs.log.GateLog.extend.Goals as goal
 
--- how many octets are written for the entries
+-- how many octets are written for the entries, and how many entries these are
 fits : (g : Over) (c : After-deref g) → c.lay_out-size.result ≤ c.self.inside.buffer.len
 fits g c = omega (arith, ap (λ (s : LogState). s.room) c.self.view_is, c.lay_out-size.ensures.size, c.requires.room)
 
-long : (g : Over) (c : After-deref g) → c.lay_out-size.result ≡ length (take c.lay_out-size.result c.deref.result.now)
-long g c = sym (length-take-le c.lay_out-size.result c.deref.result.now (omega (arith, fits g c, c.deref.ensures.len)))
+growth : (g : Over) (c : After-deref g) → IsGrowth (cut_by c.args.lengths.now c.args.octets.now) (take c.lay_out-size.result c.deref.result.now) c.lay_out-size.result (length c.args.lengths.now)
+growth g c = record {
+  size_is = sym (length-take-le c.lay_out-size.result c.deref.result.now (omega (arith, fits g c, c.deref.ensures.len)));
+  count_is = sym (cut_count c.args.lengths.now c.args.octets.now);
+}
 
 -- and which
 laid : (g : Over) (c : After-deref g) → IsLaidOut (cut_by c.args.lengths.now c.args.octets.now) (take c.lay_out-size.result c.deref.result.now)
@@ -49,7 +53,7 @@ returns-clause-others_stay g c = rw (← c.self.view_is) (apart_images _ _ _ (ap
 
 pub returns-clause-drafted : goal.returns-clause-drafted
 returns-clause-drafted g c = rw (← c.self.view_is) (λ entries h. extended (the_view c.self.inside) entries (cut_by c.args.lengths.now c.args.octets.now) (take c.lay_out-size.result c.deref.result.now) _ _ _
-    (laid g (goal.at.returns-clause-drafted g c).After-deref) _ (long g (goal.at.returns-clause-drafted g c).After-deref) h c.in_ok-write_at.ensures.state c.in_ok-write_at-2.ensures.state)
+    (laid g (goal.at.returns-clause-drafted g c).After-deref) _ _ (growth g (goal.at.returns-clause-drafted g c).After-deref) h c.in_ok-write_at.ensures.state c.in_ok-write_at-2.ensures.state)
 
 pub returns-clause-others : goal.returns-clause-others
 returns-clause-others g c = rw (← c.self.view_is) (apart_2 g (goal.at.returns-clause-others g c).In_ok-write_at-2).same
