@@ -30,14 +30,14 @@ removed_none run number uid event None d = touches_as event _ d
 removed_none run number uid event (Some message) d = touches_as event _ d.2
 
 -- requests that are neither a delivery, nor a fetch, nor a purge
-abbrev pub IsPlain : Request → Type 0
-IsPlain (request.Deliver name time octets) = ⊥
-IsPlain (request.Fetch name uid) = ⊥
-IsPlain request.Purge = ⊥
-IsPlain other = Unit {0}
+abbrev pub TouchesNoMail : Request → Type 0
+TouchesNoMail (request.Deliver name time octets) = ⊥
+TouchesNoMail (request.Fetch name uid) = ⊥
+TouchesNoMail request.Purge = ⊥
+TouchesNoMail other = Unit {0}
 
 -- an event of such a request that wasn't refused
-pub touches_none : (asked : Request) → IsPlain asked → (around : Around) (run : Run) (lists : Lists) (event : RunEvent) (part : EventPart) → DidPart around run lists asked event part → TouchesNone event
+pub touches_none : (asked : Request) → TouchesNoMail asked → (around : Around) (run : Run) (lists : Lists) (event : RunEvent) (part : EventPart) → DidPart around run lists asked event part → TouchesNone event
 touches_none (request.Deliver name time octets) plain around run lists event part d = absurd plain
 touches_none (request.Fetch name uid) plain around run lists event part d = absurd plain
 touches_none request.Purge plain around run lists event part d = absurd plain
@@ -58,7 +58,7 @@ touches_none asked plain around run lists event part d = touches_as event _ d
 abbrev pub TakesNone : Request → Type 0
 TakesNone asked = (around : Around) (run : Run) (lists : Lists) (event : RunEvent) (part : EventPart) → DidPart around run lists asked event part → event.files ≡ []
 
-pub takes_none : (asked : Request) → IsPlain asked → TakesNone asked
+pub takes_none : (asked : Request) → TouchesNoMail asked → TakesNone asked
 takes_none asked plain around run lists event part d = (touches_none asked plain around run lists event part d).0
 
 pub fetch_takes_none : (name : List ℕ) (uid : Uid) → TakesNone (request.Fetch name uid)

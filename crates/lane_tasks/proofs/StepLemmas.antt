@@ -47,7 +47,7 @@ use Rattle.lane_tasks.specs.Clause.{DoomsNone, FindsAround, LeavesUndoomed, Sets
 use Rattle.lane_tasks.specs.Tasks.{IsAtTask, IsDeliveryOf, IsTaskOf, TookFiles, did_of}
 use Rattle.lane_tasks.specs.declared.task.Task.TheVariants as task
 use Rattle.lane_tasks.proofs.NamedLemmas.{names_on}
-use Rattle.lane_tasks.proofs.FilesLemmas.{IsPlain, TakesNone, fetch_takes_none, takes_none, took_none_more}
+use Rattle.lane_tasks.proofs.FilesLemmas.{TouchesNoMail, TakesNone, fetch_takes_none, takes_none, took_none_more}
 use Rattle.lane_tasks.proofs.PurgeApartLemmas.{apart_on}
 
 -- of a task that takes no files, and whose next value is of its request, in a store that keeps its files as they are, with what its event found
@@ -143,11 +143,11 @@ pub rename_does : {D : Type 0} → (t u : RenameValue) (old new : StoreValue D) 
 rename_does t u old new before after began now ended same rest steps =
     steps_by (task.Rename t) (task.Rename u) (request.Rename t.name t.target) old new before after began now ended (λ asked is. (is, is ∙ rename_request t u same)) (takes_none (request.Rename t.name t.target) tt) (rest_files old new rest) (λ run place took. took) (λ run place took. took) (λ asked around. refl) steps
 
-ops_plain : (q : Request) → IsOpsRequest q → IsPlain q
-ops_plain (request.Deliver name time octets) is = is
-ops_plain (request.Fetch name uid) is = is
-ops_plain request.Purge is = is
-ops_plain other is = tt
+ops_leave : (q : Request) → IsOpsRequest q → TouchesNoMail q
+ops_leave (request.Deliver name time octets) is = is
+ops_leave (request.Fetch name uid) is = is
+ops_leave request.Purge is = is
+ops_leave other is = tt
 
 -- a task that replied so is of such a request
 pub ops_asked : {D : Type 0} → (q : Request) (old new : StoreValue D) (given : Reply) → Replies q old new given → IsOpsRequest q
@@ -159,7 +159,7 @@ ops_asked other old new given r = absurd r
 pub ops_does : {D : Type 0} → (t u : TaskValue) (old new : StoreValue D) (before after : Option History) (began now : Faults) (ended : Option Reply) → IsOpsRequest t.request → u.request ≡ t.request → KeepsRest old new
     → StepsFrom (IsAt t.stage) (IsAt u.stage) t.request old new before after began now u.did ended → StepsTask (task.Ops t) (task.Ops u) old new before after began now ended
 ops_does t u old new before after began now ended is_ops same rest steps =
-    steps_by (task.Ops t) (task.Ops u) t.request old new before after began now ended (λ asked is. (is, is ∙ sym same)) (takes_none t.request (ops_plain t.request is_ops)) (rest_files old new rest) (λ run place took. took) (λ run place took. took) (λ asked around. refl) steps
+    steps_by (task.Ops t) (task.Ops u) t.request old new before after began now ended (λ asked is. (is, is ∙ sym same)) (takes_none t.request (ops_leave t.request is_ops)) (rest_files old new rest) (λ run place took. took) (λ run place took. took) (λ asked around. refl) steps
 
 pub counts_does : {D : Type 0} → (t u : Did) (store : StoreValue D) (history : Option History) (faults : Faults) (ended : Option Reply) → StepsFrom HasNotBegun HasNotBegun request.Counts store store history history faults faults u ended
     → StepsTask (task.Counts t) (task.Counts u) store store history history faults faults ended

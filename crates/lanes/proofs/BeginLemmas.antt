@@ -30,10 +30,10 @@ use Rattle.lane_tasks.specs.Tasks.{BeginsTask, IsReadyTask, claims_at}
 use Rattle.lane_tasks.specs.declared.task.Task.{Task}
 use Rattle.lane_tasks.proofs.StandLemmas.{begins_ready, begins_standing, begins_unclaimed}
 use Rattle.lanes.specs.Worlds.{BeginsSome}
-use Rattle.lanes.specs.Going.{AreFreshRows, AreUndamaged, FindsMessages, IsFreshRow, IsGoing, IsUndamaged, stands_in}
+use Rattle.lanes.specs.Going.{AreFreshRows, AreUndamaged, FindsMessages, IsFreshRow, IsGoing, IsUndamaged, stands_in, WaitsWithTask}
 use Rattle.lanes.specs.Rows.{LaneRow, lane_value, lanes_of, queue_in}
 use Rattle.lanes.specs.declared.lane.Queued.{Queued}
-use Rattle.lanes.proofs.GoingLemmas.{queue_is, row_cases}
+use Rattle.lanes.proofs.GoingLemmas.{row_cases}
 
 -- ---- the store
 
@@ -84,23 +84,14 @@ untaken row = record { queue = queue_in row; task = None }
 
 lane_begins : {D : Type 0} → (script : Requests) (run : Run) (k : ℕ) (row : LaneRow) (store : StoreValue D) (history : Option History) → IsFreshRow script (k + 1) row → LaneAt (stands_in store history) script run [] (unreplied script) (k + 1) (untaken row)
     → LaneAt (stands_in store history) script run [] (unreplied script) (k + 1) (lane_value row)
-lane_begins {D} script run k row store history fresh at = by_current row.current refl
+lane_begins script run k row store history =
+    row_cases (λ r. IsFreshRow script (k + 1) r → LaneAt (stands_in store history) script run [] (unreplied script) (k + 1) (untaken r) → LaneAt (stands_in store history) script run [] (unreplied script) (k + 1) (lane_value r)) (λ waiting fresh at. at)
+    (λ first waiting fresh at. lane_taken_up (stands_in store history) script run [] (unreplied script) (k + 1) (untaken (record { current = Some first; waiting = waiting })) first.task refl (first_begins first waiting (fresh.first first refl)) at) row
   where
-    value_is : (current : Option Queued) → row.current ≡ current → lane_value row ≡ record (untaken row) { task = option_map (λ (q : Queued). q.task) current }
-    value_is current is = ap (λ (o : Option Queued). record (untaken row) { task = option_map (λ (q : Queued). q.task) o }) is
-
-    first_begins : (first : Queued) → row.current ≡ Some first → TakesUp (stands_in store history) script run [] (k + 1) (first.place ∷ map (λ (q : Queued). q.place) row.waiting) first.task
-    first_begins first is request asked unbegun =
-        let b = fresh.first first is in
+    first_begins : (first : Queued) (waiting : List Queued) → WaitsWithTask script (k + 1) first → TakesUp (stands_in store history) script run [] (k + 1) (first.place ∷ map (λ (q : Queued). q.place) waiting) first.task
+    first_begins first waiting b request asked unbegun =
         let same : b.0 ≡ request = ap (λ (q : ℕ × Request). q.1) (one_some (k + 1, b.0) (k + 1, request) (sym b.1 ∙ asked)) in
         begins_standing request first.task store history run first.place (said_by [] first.place) (subst (λ (q : Request). BeginsTask q first.task) same b.2) unbegun
-
-    by_current : (current : Option Queued) → row.current ≡ current → LaneAt (stands_in store history) script run [] (unreplied script) (k + 1) (lane_value row)
-    by_current None is = subst (λ (v : LaneValue Task). LaneAt (stands_in store history) script run [] (unreplied script) (k + 1) v) (sym (value_is None is)) at
-    by_current (Some first) is =
-        subst (λ (v : LaneValue Task). LaneAt (stands_in store history) script run [] (unreplied script) (k + 1) v) (sym (value_is (Some first) is))
-        (lane_taken_up (stands_in store history) script run [] (unreplied script) (k + 1) (untaken row) first.task refl
-        (subst (λ (ps : List ℕ). TakesUp (stands_in store history) script run [] (k + 1) ps first.task) (sym (queue_is row first is)) (first_begins first is)) at)
 
 -- ---- all lanes
 

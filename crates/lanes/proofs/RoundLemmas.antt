@@ -31,11 +31,8 @@ last_more last lane (next ∷ lanes) = last_more next lane lanes
 
 pub rounds_more : {D : Type 0} → (last lane : ℕ) (lanes : List ℕ) (old mid new : WorldValue D) (before between after : Option History) (first next second : Faults) → GoesInRounds last lanes old mid before between first next → IsNextBusy (last_of last lanes) lane mid.rows → IsLaneEvent lane mid new between after next second → new.turns ≡ mid.turns
     → GoesInRounds last (lanes ++ lane ∷ []) old new before after first second
-rounds_more {D} last lane [] old mid new before between after first next second g busy event turns =
-    subst (λ (w : WorldValue D). GoesInRounds last (lane ∷ []) w new before after first second) g.0
-    (subst (λ (h : Option History). GoesInRounds last (lane ∷ []) mid new h after first second) g.1
-    (subst (λ (f : Faults). GoesInRounds last (lane ∷ []) mid new between after f second) g.2 (new, after, second, busy, event, turns, (refl, refl, refl))))
-rounds_more {D} last lane (a ∷ lanes) old mid new before between after first next second g busy event turns =
+rounds_more last lane [] old mid new before between after first next second g busy event turns = rw (← g.0, ← g.1, ← g.2) (new, after, second, busy, event, turns, (refl, refl, refl))
+rounds_more last lane (a ∷ lanes) old mid new before between after first next second g busy event turns =
     (g.0, g.1, g.2, g.3, g.4, g.5, rounds_more a lane lanes g.0 mid new g.1 between after g.2 next second g.6 busy event turns)
 
 -- ---- in whatever order
@@ -148,9 +145,7 @@ keeps_itself world history faults = record {
 }
 
 pub in_order_keeps : {D : Type 0} → (lanes : List ℕ) (old new : WorldValue D) (before after : Option History) (first second : Faults) → GoesOnInOrder lanes old new before after first second → KeepsWorld old new before after first second
-in_order_keeps [] old new before after first second g =
-    subst (λ (w : WorldValue _). KeepsWorld old w before after first second) (sym g.0)
-    (subst (λ (h : Option History). KeepsWorld old old before h first second) (sym g.1) (subst (λ (f : Faults). KeepsWorld old old before before first f) (sym g.2) (keeps_itself old before first)))
+in_order_keeps [] old new before after first second g = rw (g.0, g.1, g.2) (keeps_itself old before first)
 in_order_keeps (lane ∷ lanes) old new before after first second g = keeps_then old g.0 new before g.1 after first g.2 second (event_keeps lane old g.0 before g.1 first g.2 g.3) (in_order_keeps lanes g.0 new g.1 after g.2 second g.5)
 
 pub rounds_keep_world : {D : Type 0} → (lanes : List ℕ) (old new : WorldValue D) (before after : Option History) (first second : Faults) → GoesOnBy lanes old new before after first second → KeepsWorld old new before after first second
