@@ -1,8 +1,8 @@
 -- Events of requests that read or change mailboxes take no storage file.
-use Rattle.lane_tasks.proofs.Common.{◌≡◌, ◌==◌, ℕ, false, List, [], ◌∷◌, Option, Some, None, refl, sym, ap, subst, ◌≢◌, ◌&&◌, ◌||◌, All, is_none, list_any, eq-eqb, ne_eqb, All-head, All-tail, Uid, Refusal, Request, Lists, EventPart, First, RunEvent, Run, TakenFile, and_then, own_events}
+use Rattle.lane_tasks.proofs.Common.{◌≡◌, ◌==◌, ℕ, false, List, [], Option, Some, None, refl, sym, ap, subst, ◌≢◌, ◌&&◌, ◌||◌, All, is_none, list_any, eq-eqb, ne_eqb, Uid, Refusal, Request, Lists, EventPart, First, RunEvent, Run, TakenFile, and_then, own_events}
 use Rattle.lane_tasks.proofs.Common.{Around, took_file, own_more, own_other, TookNoFile}
-use Rattle.std.proofs.lemmas.List.Elements.{All-push}
-use Rattle.std.proofs.lemmas.Bool.{or_from}
+use Rattle.std.proofs.lemmas.List.Elements.{All-push, All-weaker}
+use Rattle.std.proofs.lemmas.List.Folds.{list_any_none}
 use Rattle.mdbox_base.specs.declared.requests.Request.TheVariants as request
 use Rattle.model_lists.specs.Lists.{ListedMessage}
 use Rattle.list_machine.specs.Machine.{message_numbered}
@@ -30,14 +30,14 @@ removed_none run number uid event None d = touches_as event _ d
 removed_none run number uid event (Some message) d = touches_as event _ d.2
 
 -- requests that are neither a delivery, nor a fetch, nor a purge
-abbrev pub IsPlain : Request → Type 0
-IsPlain (request.Deliver name time octets) = ⊥
-IsPlain (request.Fetch name uid) = ⊥
-IsPlain request.Purge = ⊥
-IsPlain other = Unit {0}
+abbrev pub TouchesNoMail : Request → Type 0
+TouchesNoMail (request.Deliver name time octets) = ⊥
+TouchesNoMail (request.Fetch name uid) = ⊥
+TouchesNoMail request.Purge = ⊥
+TouchesNoMail other = Unit {0}
 
 -- an event of such a request that wasn't refused
-pub touches_none : (asked : Request) → IsPlain asked → (around : Around) (run : Run) (lists : Lists) (event : RunEvent) (part : EventPart) → DidPart around run lists asked event part → TouchesNone event
+pub touches_none : (asked : Request) → TouchesNoMail asked → (around : Around) (run : Run) (lists : Lists) (event : RunEvent) (part : EventPart) → DidPart around run lists asked event part → TouchesNone event
 touches_none (request.Deliver name time octets) plain around run lists event part d = absurd plain
 touches_none (request.Fetch name uid) plain around run lists event part d = absurd plain
 touches_none request.Purge plain around run lists event part d = absurd plain
@@ -58,7 +58,7 @@ touches_none asked plain around run lists event part d = touches_as event _ d
 abbrev pub TakesNone : Request → Type 0
 TakesNone asked = (around : Around) (run : Run) (lists : Lists) (event : RunEvent) (part : EventPart) → DidPart around run lists asked event part → event.files ≡ []
 
-pub takes_none : (asked : Request) → IsPlain asked → TakesNone asked
+pub takes_none : (asked : Request) → TouchesNoMail asked → TakesNone asked
 takes_none asked plain around run lists event part d = (touches_none asked plain around run lists event part d).0
 
 pub fetch_takes_none : (name : List ℕ) (uid : Uid) → TakesNone (request.Fetch name uid)
@@ -85,5 +85,4 @@ one_not_taken file None files none = ap (λ (ts : List TakenFile). list_any (λ 
 one_not_taken file (Some why) files none = refl
 
 pub none_taken : (file : ℕ) (own : List RunEvent) → All TookNone own → list_any (took_file file) own ≡ false
-none_taken file [] all = refl
-none_taken file (e ∷ rest) all = or_from (took_file file e) (list_any (took_file file) rest) (one_not_taken file e.refused e.files (All-head TookNone e rest all)) (none_taken file rest (All-tail TookNone e rest all))
+none_taken file own all = list_any_none (took_file file) own (All-weaker TookNone (λ event. took_file file event ≡ false) (λ event none. one_not_taken file event.refused event.files none) own all)

@@ -1,6 +1,6 @@
 -- The instances that tasks claim to hold are those that their requests' events found, placed or pinned.
 use Rattle.lane_tasks.proofs.Common.{◌≡◌, ◌+◌, ◌==◌, ℕ, Bool, true, false, cond, List, [], ◌∷◌, ◌++◌, Option, Some, None, refl, sym, ◌∙◌, ap, arith, inl, inr, ◌⊎◌, All, flat_map, is_none, list_any, option_map_or, All-head, All-nil, All-cons, All-tail, list_any-append, sum_by-cons}
-use Rattle.lane_tasks.proofs.Common.{History, InstRow, Uid, Refusal, Reply, Request, MapMeaning, EventPart, Run, RunEvent, own_events, StoreValue, Held, one_if, fetch_claims, IsAtFetch, FetchStage, MakeStage, make_claims, IsAt, save_claims, IsAtSave, IsReadyToDeliver, SaveValue, SaveStage}
+use Rattle.lane_tasks.proofs.Common.{History, InstRow, Uid, Refusal, Reply, Request, MapMeaning, EventPart, Run, RunEvent, own_events, StoreValue, Held, one_if, fetch_claims, IsAtFetch, FetchStage, make_claims, IsAt, save_claims, IsAtSave, IsReadyToDeliver, SaveValue, SaveStage}
 use Rattle.lane_tasks.proofs.Common.{purge_claims, IsReadyTask, HasNamedFound, StandsTask, claims_at, Task}
 use Rattle.std.proofs.Common.{◌≤◌, ◌&&◌, ◌||◌}
 use Rattle.std.specs.Prelude.{find, option_map}
@@ -8,6 +8,8 @@ use Rattle.std.specs.Str.{bytes_eq}
 use Rattle.std.proofs.lemmas.List.Concat.{flat_map-cons}
 use Rattle.std.proofs.lemmas.Slice.Eq.{bytes_eq-Decides}
 use Rattle.std.proofs.lemmas.Bool.{or_left, or_right, or_cases, and_from, or_from, and_parts, and_right}
+use Rattle.std.proofs.lemmas.List.Elements.{All-weaker}
+use Rattle.std.proofs.lemmas.List.Folds.{list_any_none}
 use Rattle.attach_detach.specs.declared.message.Detached.{Detached}
 use Rattle.mdbox_base.specs.declared.ids.InstId.{InstId}
 use Rattle.mdbox_base.specs.declared.requests.Request.TheVariants as request
@@ -25,13 +27,12 @@ use Rattle.mail_fetch.specs.Claims.{IsReadyToFetch}
 use Rattle.mail_fetch.specs.Stages.{HasPinned, ReadPiece, UnpinsNext}
 use Rattle.mail_fetch.specs.declared.parts.StoredAt.{StoredAt}
 use Rattle.mail_fetch.specs.declared.task.FetchStage.TheVariants as fetch_stage
-use Rattle.mail_ops.specs.declared.making.MakeStage.TheVariants as make_stage
 use Rattle.mail_ops.specs.declared.task.TaskStage.{TaskStage}
 use Rattle.mail_ops.specs.declared.task.TaskStage.TheVariants as ops_stage
 use Rattle.mail_save.specs.SaveStages.{AreTakenSoFar}
 use Rattle.mail_save.specs.declared.task.SaveStage.TheVariants as save_stage
 use Rattle.lane_tasks.specs.Uses.{UsesInstance, finds_instance, pins_instance}
-use Rattle.lane_tasks.proofs.RoomLemmas.{purge_holds}
+use Rattle.lane_tasks.proofs.RoomLemmas.{purge_holds, make_holds}
 use Rattle.lane_tasks.specs.declared.task.Task.TheVariants as task
 use Rattle.lane_tasks.proofs.NamedLemmas.{found_by, front_found, one_more, placed_found}
 
@@ -72,20 +73,19 @@ held_same {D} store instance (row ∷ rows) knows known some = by_test (bytes_eq
         let sum : holds_of (row ∷ rows) instance.id ≡ one_if (bytes_eq row.id.0 instance.id.0) + holds_of rows instance.id = sum_by-cons (λ (r : InstRow). one_if (bytes_eq r.id.0 instance.id.0)) row rows in
         or_right (is_same_instance instance row) (list_any (is_same_instance instance) rows) (more (omega (arith, none, sum, some)))
 
+-- one instance has one id
+same_back : (instance row : InstRow) → is_same_instance instance row ≡ true → bytes_eq row.id.0 instance.id.0 ≡ true
+same_back instance row same = (bytes_eq-Decides row.id.0 instance.id.0).1 (sym ((bytes_eq-Decides instance.id.0 row.id.0).0 (and_parts (bytes_eq instance.hash.0 row.hash.0) (bytes_eq instance.id.0 row.id.0) same).1))
+
 -- and the other way round, known or not
 same_held : (instance : InstRow) (rows : List InstRow) → list_any (is_same_instance instance) rows ≡ true → 1 ≤ holds_of rows instance.id
 same_held instance [] is = no_true is
-same_held instance (row ∷ rows) is = by_case (or_cases (is_same_instance instance row) (list_any (is_same_instance instance) rows) is) (same_held instance rows)
-  where
-    sum : holds_of (row ∷ rows) instance.id ≡ one_if (bytes_eq row.id.0 instance.id.0) + holds_of rows instance.id
-    sum = sum_by-cons (λ (r : InstRow). one_if (bytes_eq r.id.0 instance.id.0)) row rows
-
-    by_case : (is_same_instance instance row ≡ true) ⊎ (list_any (is_same_instance instance) rows ≡ true) → (list_any (is_same_instance instance) rows ≡ true → 1 ≤ holds_of rows instance.id) → 1 ≤ holds_of (row ∷ rows) instance.id
-    by_case (inl same) rest =
-        let id : bytes_eq instance.id.0 row.id.0 ≡ true = (and_parts (bytes_eq instance.hash.0 row.hash.0) (bytes_eq instance.id.0 row.id.0) same).1 in
-        let one : one_if (bytes_eq row.id.0 instance.id.0) ≡ 1 = ap one_if ((bytes_eq-Decides row.id.0 instance.id.0).1 (sym ((bytes_eq-Decides instance.id.0 row.id.0).0 id))) in
-        omega (arith, sum, one)
-    by_case (inr more) rest = let held = rest more in omega (arith, sum, held)
+same_held instance (row ∷ rows) is =
+    let sum = sum_by-cons (λ (r : InstRow). one_if (bytes_eq r.id.0 instance.id.0)) row rows in
+    elim (or_cases (is_same_instance instance row) (list_any (is_same_instance instance) rows) is) [
+      | inl same ↦ let one = ap one_if (same_back instance row same) in omega (arith, sum, one)
+      | inr more ↦ let held = same_held instance rows more in omega (arith, sum, held)
+    ]
 
 -- ---- events
 
@@ -131,14 +131,10 @@ delivery_told now name time size octets store history run place said instance at
 
 same_named : (instance : InstRow) (rows : List InstRow) → list_any (is_same_instance instance) rows ≡ true → list_any (λ (i : InstRow). bytes_eq i.id.0 instance.id.0) rows ≡ true
 same_named instance [] is = no_true is
-same_named instance (row ∷ rows) is = by_case (or_cases (is_same_instance instance row) (list_any (is_same_instance instance) rows) is) (same_named instance rows)
-  where
-    by_case : (is_same_instance instance row ≡ true) ⊎ (list_any (is_same_instance instance) rows ≡ true) → (list_any (is_same_instance instance) rows ≡ true → list_any (λ (i : InstRow). bytes_eq i.id.0 instance.id.0) rows ≡ true)
-        → (bytes_eq row.id.0 instance.id.0 || list_any (λ (i : InstRow). bytes_eq i.id.0 instance.id.0) rows) ≡ true
-    by_case (inl same) rest =
-        let id : bytes_eq instance.id.0 row.id.0 ≡ true = (and_parts (bytes_eq instance.hash.0 row.hash.0) (bytes_eq instance.id.0 row.id.0) same).1 in
-        or_left (bytes_eq row.id.0 instance.id.0) _ ((bytes_eq-Decides row.id.0 instance.id.0).1 (sym ((bytes_eq-Decides instance.id.0 row.id.0).0 id)))
-    by_case (inr more) rest = or_right (bytes_eq row.id.0 instance.id.0) _ (rest more)
+same_named instance (row ∷ rows) is = elim (or_cases (is_same_instance instance row) (list_any (is_same_instance instance) rows) is) [
+  | inl same ↦ or_left (bytes_eq row.id.0 instance.id.0) _ (same_back instance row same)
+  | inr more ↦ or_right (bytes_eq row.id.0 instance.id.0) _ (same_named instance rows more)
+]
 
 among : (test : InstRow → Bool) (uid : ℕ) (records : List MapRecord) (row : MapRecord) → find (λ r. r.uid == uid) records ≡ Some row → list_any test row.instances ≡ true → list_any test (flat_map (λ r. r.instances) records) ≡ true
 among test uid [] row there is = absurd (let k : None ≡ Some row = there in cc k)
@@ -194,15 +190,11 @@ part_pinned : (event : RunEvent) (part : EventPart) → event.part ≡ part → 
 part_pinned event part is none = ap (λ (p : EventPart). is_none event.refused && is_unpinning_part p) is ∙ and_right (is_none event.refused) (is_unpinning_part part) none
 
 pieces_pinned : (events : List RunEvent) → All (ReadPiece None) events → list_any is_unpinning events ≡ false
-pieces_pinned [] all = refl
-pieces_pinned (e ∷ more) all =
-    let first = All-head (ReadPiece None) e more all in or_from (is_unpinning e) (list_any is_unpinning more) (part_pinned e _ first.part refl) (pieces_pinned more (All-tail (ReadPiece None) e more all))
+pieces_pinned events all = list_any_none is_unpinning events (All-weaker (ReadPiece None) (λ event. is_unpinning event ≡ false) (λ event piece. part_pinned event _ piece.part refl) events all)
 
 pieces_bare : (instance : InstRow) (events : List RunEvent) → All (ReadPiece None) events → list_any (pins_instance instance) events ≡ false
-pieces_bare instance [] all = refl
-pieces_bare instance (e ∷ more) all =
-    let first = All-head (ReadPiece None) e more all in
-    or_from (pins_instance instance e) (list_any (pins_instance instance) more) (ap (λ (ps : List Pin). list_any (λ p. list_any (is_same_instance instance) p.instances) ps) first.pinned) (pieces_bare instance more (All-tail (ReadPiece None) e more all))
+pieces_bare instance events all = list_any_none (pins_instance instance) events
+    (All-weaker (ReadPiece None) (λ event. pins_instance instance event ≡ false) (λ event piece. ap (λ (ps : List Pin). list_any (λ p. list_any (is_same_instance instance) p.instances) ps) piece.pinned) events all)
 
 -- what it pinned
 pin_has : (from : StoredAt) (own behind : List RunEvent) (instance : InstRow) (p : HasPinned from own behind) → pins_instance instance p.pin ≡ (list_any (is_same_instance instance) from.instances || false)
@@ -219,11 +211,10 @@ or_none true e = refl
 or_none false e = e
 
 pinned_same : (from : StoredAt) (own behind : List RunEvent) (instance : InstRow) → HasPinned from own behind → list_any (pins_instance instance) behind ≡ false → list_any (pins_instance instance) own ≡ true → list_any (is_same_instance instance) from.instances ≡ true
-pinned_same from own behind instance p bare any = by_case (or_cases (pins_instance instance p.pin) (list_any (pins_instance instance) behind) (sym (ap (list_any (pins_instance instance)) p.own_are) ∙ any))
-  where
-    by_case : (pins_instance instance p.pin ≡ true) ⊎ (list_any (pins_instance instance) behind ≡ true) → list_any (is_same_instance instance) from.instances ≡ true
-    by_case (inl is) = or_none (list_any (is_same_instance instance) from.instances) (sym (pin_has from own behind instance p) ∙ is)
-    by_case (inr is) = no_true (sym bare ∙ is)
+pinned_same from own behind instance p bare any = elim (or_cases (pins_instance instance p.pin) (list_any (pins_instance instance) behind) (sym (ap (list_any (pins_instance instance)) p.own_are) ∙ any)) [
+  | inl is ↦ or_none (list_any (is_same_instance instance) from.instances) (sym (pin_has from own behind instance p) ∙ is)
+  | inr is ↦ no_true (sym bare ∙ is)
+]
 
 -- behind the last piece, one that was refused
 last_pinned : (front : List RunEvent) (last : RunEvent) (why : Refusal) → All (ReadPiece None) front → ReadPiece (Some why) last → list_any is_unpinning (front ++ last ∷ []) ≡ false
@@ -253,12 +244,7 @@ fetch_told (fetch_stage.Unpinning from given) store history run place said insta
 fetch_told (fetch_stage.Removing file given) store history run place said instance at ready knows some = none_held 0 refl some
 
 last_any : (p : RunEvent → Bool) (events : List RunEvent) (event : RunEvent) → p event ≡ true → list_any p (events ++ event ∷ []) ≡ true
-last_any p [] event e = ap (λ (b : Bool). b || false) e
-last_any p (a ∷ events) event e = by_test (p a) (last_any p events event e)
-  where
-    by_test : (b : Bool) → list_any p (events ++ event ∷ []) ≡ true → (b || list_any p (events ++ event ∷ [])) ≡ true
-    by_test true rest = refl
-    by_test false rest = rest
+last_any p events event e = list_any-append p events (event ∷ []) ∙ or_right (list_any p events) (p event || false) (or_left (p event) false e)
 
 fetch_keeps : (now : FetchStage) (stopped : Bool) (history : Option History) (run : Run) (place : ℕ) (said : List Reply) (instance : InstRow) → IsAtFetch now stopped history run place said → list_any (pins_instance instance) (own_events place run) ≡ true → list_any is_unpinning (own_events place run) ≡ false
     → 1 ≤ fetch_claims now (Held instance.id)
@@ -282,10 +268,6 @@ fetch_holds t store history name uid run place said instance s any still = absur
 
 -- ---- each kind
 
-make_unheld : (now : MakeStage) (id : InstId) → make_claims now (Held id) ≡ 0
-make_unheld make_stage.First id = refl
-make_unheld (make_stage.Naming number) id = refl
-
 deliver_told : {D : Type 0} → (t : SaveValue) (store : StoreValue D) (history : Option History) (asked : Request) (run : Run) (place : ℕ) (said : List Reply) (instance : InstRow) → StandsTask (task.Deliver t) store history asked run place said → IsReadyTask (task.Deliver t) store history → knows_instance store instance ≡ true
     → 1 ≤ save_claims t.stage (Held instance.id) → UsesInstance instance (own_events place run)
 deliver_told t store history (request.Deliver name time octets) run place said instance s ready knows some = delivery_told t.stage t.name t.time t.size ready.0 store history run place said instance s.at.0 ready.1 knows some
@@ -295,6 +277,6 @@ pub held_told : {D : Type 0} → (t : Task) (store : StoreValue D) (history : Op
     → UsesInstance instance (own_events place run)
 held_told (task.Deliver t) store history asked run place said instance s ready knows some = deliver_told t store history asked run place said instance s ready knows some
 held_told (task.Fetch t) store history asked run place said instance s ready knows some = fetch_told t.stage store history run place said instance s.at ready knows some
-held_told (task.Make t) store history asked run place said instance s ready knows some = none_held (make_claims t.stage (Held instance.id)) (make_unheld t.stage instance.id) some
+held_told (task.Make t) store history asked run place said instance s ready knows some = none_held (make_claims t.stage (Held instance.id)) (make_holds t.stage instance.id) some
 held_told (task.Purge t) store history asked run place said instance s ready knows some = none_held (purge_claims t.stage (Held instance.id)) (purge_holds t.stage instance.id) some
 held_told t store history asked run place said instance s ready knows some = none_held 0 refl some

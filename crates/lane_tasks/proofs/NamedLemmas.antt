@@ -75,12 +75,7 @@ names_beside (save_stage.Adding added room) old new before after run place event
 names_beside (save_stage.GivingBack uid why room) old new before after run place event b other named =
     let k = record_left (save_claims (save_stage.GivingBack uid why room)) old new before after uid.0 named.0 b (own_one uid.0) named.1 in
     (k.now, k.there, ap (λ (row : MapRecord). row.instances) k.is_same ∙ (named.2 ∙ sym (found_other place run event other)))
-names_beside (save_stage.First prepared) old new before after run place event b other named = tt
-names_beside (save_stage.Attaching parts attaching) old new before after run place event b other named = tt
-names_beside (save_stage.Taking parts) old new before after run place event b other named = tt
-names_beside (save_stage.Placing parts file) old new before after run place event b other named = tt
-names_beside (save_stage.Storing at rows room) old new before after run place event b other named = tt
-names_beside save_stage.Ended old new before after run place event b other named = tt
+names_beside now old new before after run place event b other named = tt
 
 -- ---- an event of its own
 

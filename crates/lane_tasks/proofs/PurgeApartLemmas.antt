@@ -78,13 +78,12 @@ targets_rise m drawn (t ∷ files) told = by_test (list_any (is_copied_from t.fi
           AllPairs-cons (λ (a b : TakenFile). (a.target ≡ 0) ⊎ (a.target ≢ b.target)) t files (All-weaker (λ (b : TakenFile). (b.target ≡ 0) ⊎ (drawn < b.target)) (λ (b : TakenFile). (t.target ≡ 0) ⊎ (t.target ≢ b.target)) (λ b either. inl here) files rest.0) rest.1,
         )
 
-all_of_map : (P : ℕ → Type 0) (files : List TakenFile) → All P (map (λ t. t.file) files) → All (λ t. P t.file) files
-all_of_map P [] all = All-nil (λ (t : TakenFile). P t.file)
-all_of_map P (t ∷ files) all = All-cons (λ (t : TakenFile). P t.file) t files (All-head P t.file (map (λ t. t.file) files) all) (all_of_map P files (All-tail P t.file (map (λ t. t.file) files) all))
+pub all_of_map : {X Y : Type 0} → (P : Y → Type 0) (f : X → Y) (xs : List X) → All P (map f xs) → All (λ x. P (f x)) xs
+all_of_map P f [] all = All-nil (λ x. P (f x))
+all_of_map P f (x ∷ xs) all = All-cons (λ x. P (f x)) x xs (All-head P (f x) (map f xs) all) (all_of_map P f xs (All-tail P (f x) (map f xs) all))
 
 both_hold : (P Q : TakenFile → Type 0) (files : List TakenFile) → All P files → All Q files → All (λ t. P t × Q t) files
-both_hold P Q [] p q = All-nil (λ (t : TakenFile). P t × Q t)
-both_hold P Q (t ∷ files) p q = All-cons (λ (t : TakenFile). P t × Q t) t files (All-head P t files p, All-head Q t files q) (both_hold P Q files (All-tail P t files p) (All-tail Q t files q))
+both_hold P Q files p q k d less = (p k d less, q k d less)
 
 apart_begun : (event : RunEvent) (m : MapMeaning) (most : ℕ) → map (λ t. t.target) event.files ≡ targets_of m most event.files → All (λ t. t.file ≤ most) event.files → is_storing event.part ≡ false → event.doomed ≡ [] → event.removed ≡ [] → TookApart (event ∷ [])
 apart_begun event m most told within part doomed removed =
@@ -207,5 +206,5 @@ apart_on around behind run lists event place at is unrefused agrees drawn took =
     within first =
         let told : map (λ t. t.file) event.files ≡ around.files = subst (λ (part : EventPart). TellsFiles around event part) first is.finds in
         let finds : FindsFiles run around.files = subst (λ (part : EventPart). PurgeFinds around run part) first (agrees (ap has_looked unrefused)) in
-        all_of_map (λ file. file ≤ (drawn_of run).file) event.files
+        all_of_map (λ file. file ≤ (drawn_of run).file) (λ (t : TakenFile). t.file) event.files
         (subst (λ (files : List ℕ). All (λ file. file ≤ (drawn_of run).file) files) (sym told) (All-weaker (IsFreeFile run) (λ file. file ≤ (drawn_of run).file) drawn around.files finds.free))

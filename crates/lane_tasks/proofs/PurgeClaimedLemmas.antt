@@ -3,15 +3,19 @@ use Rattle.lane_tasks.proofs.Common.{◌≡◌, ◌==◌, ◌<◌, ◌+◌, ℕ,
 use Rattle.lane_tasks.proofs.Common.{All-tail, list_any-append, sum_by-cons, FileNo, Refusal, Reply, Run, RunEvent, TakenFile, is_one_of, own_events, is_done, gave_back, is_storing, took_file, StoreValue, Emptied, Taken, claims_of_sources, claims_of_switched, claims_of_target, purge_claims}
 use Rattle.lane_tasks.proofs.Common.{sources_left, PurgeValue, IsAtPurgeStage, PurgeStage, Source}
 use Rattle.std.specs.Prelude.{◌++◌, AllPairs, Contains}
-use Rattle.std.specs.Option.{option_or}
-use Rattle.std.proofs.lemmas.List.Elements.{All-contains}
-use Rattle.std.proofs.lemmas.Bool.{or_from, and_left, and_right, ne_eqb, eq-eqb, or_cases, or_parts, and_from, eqb-true}
+use Rattle.std.specs.Option.{option_or, option_map}
+use Rattle.std.proofs.lemmas.List.Elements.{All-contains, All-weaker, All-map, All-append}
+use Rattle.std.proofs.lemmas.Bool.{or_from, and_left, and_right, ne_eqb, eq-eqb, or_cases, or_parts, and_from, eqb-true, or_left, or_right}
+use Rattle.std.proofs.lemmas.Map.Keys.{any_passes_from_place}
+use Rattle.std.proofs.lemmas.Option.{slice_get-map, slice_get-get_or}
+use Rattle.std.proofs.lemmas.List.Folds.{list_any_none}
 use Rattle.model_octets.proofs.PairLemmas.{pairs_head, pairs_tail}
 use Rattle.journal.specs.Events.{last_refusal}
 use Rattle.purge_task.specs.Stages.{HaveTaken, IsAtSwitched, told_taken}
 use Rattle.purge_task.specs.declared.task.PurgeStage.TheVariants as stage
+use Rattle.lane_tasks.proofs.PurgeApartLemmas.{all_of_map}
 use Rattle.lane_tasks.specs.Tasks.{DoomsWithin, IsTakenWithin, TookApart}
-use Rattle.lane_tasks.proofs.PurgeTakenLemmas.{counted, is_gone, is_of, is_target_done, or_both}
+use Rattle.lane_tasks.proofs.PurgeTakenLemmas.{counted, is_gone, is_of, is_target_done}
 
 -- ---- tests
 
@@ -59,37 +63,21 @@ target_told file (Some target) e = eqb-true target.0 file e
 
 -- ---- it was taken
 
-told_among : (q : TakenFile → Bool) (left : List Source) (s : Source) → q (told_taken s) ≡ true → All (λ x. x ≡ s → list_any q (map told_taken left) ≡ true) left → Contains left s → list_any q (map told_taken left) ≡ true
-told_among q left s passes all c = All-contains (λ x. x ≡ s → list_any q (map told_taken left) ≡ true) left s all c refl
-
-each_tells : (q : TakenFile → Bool) (left : List Source) (s : Source) → q (told_taken s) ≡ true → All (λ x. x ≡ s → list_any q (map told_taken left) ≡ true) left
-each_tells q [] s passes = All-nil (λ x. x ≡ s → list_any q (map told_taken []) ≡ true)
-each_tells q (x ∷ left) s passes =
-    All-cons (λ y. y ≡ s → list_any q (map told_taken (x ∷ left)) ≡ true) x left
-    (λ e. or_both (q (told_taken x)) (list_any q (map told_taken left)) (inl (ap (λ (y : Source). q (told_taken y)) e ∙ passes)))
-    (later left (each_tells q left s passes))
-  where
-    later : (rest : List Source) → All (λ y. y ≡ s → list_any q (map told_taken left) ≡ true) rest → All (λ y. y ≡ s → list_any q (map told_taken (x ∷ left)) ≡ true) rest
-    later rest all i d within e = or_both (q (told_taken x)) (list_any q (map told_taken left)) (inr (all i d within e))
-
 told_any : (q : TakenFile → Bool) (left : List Source) (s : Source) → q (told_taken s) ≡ true → Contains left s → list_any q (map told_taken left) ≡ true
-told_any q left s passes c = told_among q left s passes (each_tells q left s passes) c
+told_any q left s passes c = any_passes_from_place q (map told_taken left) c.0 (told_taken s) (slice_get-map told_taken left c.0 ∙ ap (option_map told_taken) (slice_get-get_or left c.0 s c.1 ∙ ap (λ (x : Source). Some x) c.2)) passes
 
 any_behind : (q : TakenFile → Bool) (done left : List Source) → list_any q (map told_taken left) ≡ true → list_any q (map told_taken (done ++ left)) ≡ true
 any_behind q [] left is = is
-any_behind q (d ∷ done) left is = or_both (q (told_taken d)) (list_any q (map told_taken (done ++ left))) (inr (any_behind q done left is))
+any_behind q (d ∷ done) left is = or_right (q (told_taken d)) _ (any_behind q done left is)
 
 event_took : (file : ℕ) (own : List RunEvent) → last_refusal own ≡ None → list_any (is_of file) (flat_map (λ (e : RunEvent). e.files) own) ≡ true → list_any (took_file file) own ≡ true
 event_took file [] unrefused is = is
 event_took file (x ∷ own) unrefused is =
     let both = none_refused (last_refusal own) x.refused unrefused in
-    or_both (took_file file x) (list_any (took_file file) own)
-    (by_which both.1 (or_cases (list_any (is_of file) x.files) (list_any (is_of file) (flat_map (λ (e : RunEvent). e.files) own)) (sym (list_any-append (is_of file) x.files (flat_map (λ (e : RunEvent). e.files) own)) ∙ is)) (λ later. event_took file own both.0 later))
-  where
-    by_which : x.refused ≡ None → (list_any (is_of file) x.files ≡ true) ⊎ (list_any (is_of file) (flat_map (λ (e : RunEvent). e.files) own) ≡ true) → (list_any (is_of file) (flat_map (λ (e : RunEvent). e.files) own) ≡ true → list_any (took_file file) own ≡ true)
-        → (took_file file x ≡ true) ⊎ (list_any (took_file file) own ≡ true)
-    by_which none (inl here) rest = inl (and_from (is_none x.refused) (list_any (is_of file) x.files) (ap is_none none) here)
-    by_which none (inr later) rest = inr (rest later)
+    elim (or_cases (list_any (is_of file) x.files) (list_any (is_of file) (flat_map (λ (e : RunEvent). e.files) own)) (sym (list_any-append (is_of file) x.files (flat_map (λ (e : RunEvent). e.files) own)) ∙ is)) [
+      | inl here ↦ or_left (took_file file x) _ (and_from (is_none x.refused) (list_any (is_of file) x.files) (ap is_none both.1) here)
+      | inr later ↦ or_right (took_file file x) _ (event_took file own both.0 later)
+    ]
 
 -- ---- it wasn't given back
 
@@ -101,24 +89,15 @@ unended most file (x ∷ own) all none =
     or_from (is_storing x.part || is_gone file x) (list_any (λ (e : RunEvent). is_storing e.part || is_gone file e) own) (or_from (is_storing x.part) (is_gone file x) here.0 parts.0) (unended most file own (All-tail (DoomsWithin most) x own all) parts.1)
 
 none_above : (most file : ℕ) (files : List ℕ) → most < file → All (λ n. n ≤ most) files → is_one_of files file ≡ false
-none_above most file [] above all = refl
-none_above most file (f ∷ files) above all =
-    let here = All-head (λ (n : ℕ). n ≤ most) f files all in
-    or_from (f == file) (is_one_of files file) (ne_eqb f file (λ e. absurd (omega (arith, e, here, above)))) (none_above most file files above (All-tail (λ (n : ℕ). n ≤ most) f files all))
+none_above most file files above all = list_any_none (λ f. f == file) files (All-weaker (λ n. n ≤ most) (λ f. (f == file) ≡ false) (λ f within. ne_eqb f file (λ e. absurd (omega (arith, e, within, above)))) files all)
 
 none_gone_above : (most file : ℕ) (own : List RunEvent) → most < file → All (DoomsWithin most) own → list_any (is_gone file) own ≡ false
-none_gone_above most file [] above all = refl
-none_gone_above most file (x ∷ own) above all =
-    let here = All-head (DoomsWithin most) x own all in
-    or_from (is_gone file x) (list_any (is_gone file) own) (or_from (is_one_of x.doomed file) (is_one_of x.removed file) (none_above most file x.doomed above here.1) (none_above most file x.removed above here.2)) (none_gone_above most file own above (All-tail (DoomsWithin most) x own all))
-
-each_told : (P : TakenFile → Type 0) (left : List Source) → All P (map told_taken left) → All (λ x. P (told_taken x)) left
-each_told P [] all = All-nil (λ (x : Source). P (told_taken x))
-each_told P (x ∷ rest) all = All-cons (λ (x : Source). P (told_taken x)) x rest (All-head P (told_taken x) (map told_taken rest) all) (each_told P rest (All-tail P (told_taken x) (map told_taken rest) all))
+none_gone_above most file own above all = list_any_none (is_gone file) own (All-weaker (DoomsWithin most) (λ event. is_gone file event ≡ false)
+    (λ event here. or_from (is_one_of event.doomed file) (is_one_of event.removed file) (none_above most file event.doomed above here.1) (none_above most file event.removed above here.2)) own all)
 
 -- what holds of all that was taken holds of each that is left
 of_left : (P : TakenFile → Type 0) (done left : List Source) (s : Source) → All P (map told_taken (done ++ left)) → Contains left s → P (told_taken s)
-of_left P [] left s all c = All-contains (λ x. P (told_taken x)) left s (each_told P left all) c
+of_left P [] left s all c = All-contains (λ x. P (told_taken x)) left s (all_of_map P told_taken left all) c
 of_left P (d ∷ done) left s all c = of_left P done left s (All-tail P (told_taken d) (map told_taken (done ++ left)) all) c
 
 abbrev AreTargetsApart : TakenFile → TakenFile → Type 0
@@ -126,11 +105,7 @@ AreTargetsApart a b = (a.target ≡ 0) ⊎ (a.target ≢ b.target)
 
 -- a test that neither those that are done pass nor those that aren't
 none_passes : (q : TakenFile → Bool) (done left : List Source) → All (λ s. q (told_taken s) ≡ false) done → All (λ s. q (told_taken s) ≡ false) left → list_any q (map told_taken (done ++ left)) ≡ false
-none_passes q [] [] no_done no_left = refl
-none_passes q [] (s ∷ left) no_done no_left =
-    or_from (q (told_taken s)) (list_any q (map told_taken left)) (All-head (λ (s : Source). q (told_taken s) ≡ false) s left no_left) (none_passes q [] left no_done (All-tail (λ (s : Source). q (told_taken s) ≡ false) s left no_left))
-none_passes q (d ∷ done) left no_done no_left =
-    or_from (q (told_taken d)) (list_any q (map told_taken (done ++ left))) (All-head (λ (s : Source). q (told_taken s) ≡ false) d done no_done) (none_passes q done left (All-tail (λ (s : Source). q (told_taken s) ≡ false) d done no_done) no_left)
+none_passes q done left no_done no_left = list_any_none q (map told_taken (done ++ left)) (All-map (λ t. q t ≡ false) told_taken (done ++ left) (All-append (λ s. q (told_taken s) ≡ false) done left no_done no_left))
 
 -- a target of one that is done is neither a file that was taken, nor another's target
 source_apart : (most file : ℕ) (own : List RunEvent) (done left : List Source) → 1 ≤ file → file ≤ most → All (IsTakenWithin most) (map told_taken (done ++ left)) → All (λ d. is_target_done file own (told_taken d) ≡ false) done
@@ -153,10 +128,7 @@ target_apart file own (d ∷ done) left s some is pairs c =
     by_target (inr apart) = and_left ((told_taken d).target == file) (is_done own (told_taken d)) (ne_eqb (told_taken d).target file (λ e. absurd (apart (e ∙ sym is))))
 
 left_undone : (file : ℕ) (own : List RunEvent) (left : List Source) → All (λ s. is_done own (told_taken s) ≡ false) left → All (λ s. is_target_done file own (told_taken s) ≡ false) left
-left_undone file own [] undone = All-nil (λ (s : Source). is_target_done file own (told_taken s) ≡ false)
-left_undone file own (s ∷ left) undone =
-    All-cons (λ (s : Source). is_target_done file own (told_taken s) ≡ false) s left (and_right ((told_taken s).target == file) (is_done own (told_taken s)) (All-head (λ (s : Source). is_done own (told_taken s) ≡ false) s left undone))
-    (left_undone file own left (All-tail (λ (s : Source). is_done own (told_taken s) ≡ false) s left undone))
+left_undone file own = All-weaker (λ (s : Source). is_done own (told_taken s) ≡ false) (λ (s : Source). is_target_done file own (told_taken s) ≡ false) (λ s undone. and_right ((told_taken s).target == file) (is_done own (told_taken s)) undone)
 
 -- ---- both
 
@@ -177,7 +149,7 @@ own_has file done left own h unrefused took some (inr emptied) =
     let all = subst (λ (ts : List TakenFile). All (IsTakenWithin took.most) ts) h.taken took.files in
     let within : file ≤ took.most = subst (λ (n : ℕ). n ≤ took.most) at (of_left (IsTakenWithin took.most) done left p.source all p.among).0 in
     let gone : list_any (is_gone file) own ≡ false = subst (λ (n : ℕ). list_any (is_gone n) own ≡ false) at (All-contains (λ (s : Source). is_done own (told_taken s) ≡ false) left p.source h.left_are p.among) in
-    has_file file done left own p.source h unrefused took p.among (or_both (p.source.file.0 == file) ((told_taken p.source).target == file) (inl p.passes)) gone (source_apart took.most file own done left some within all)
+    has_file file done left own p.source h unrefused took p.among (or_left (p.source.file.0 == file) ((told_taken p.source).target == file) p.passes) gone (source_apart took.most file own done left some within all)
 own_has file done left own h unrefused took some (inl taken) =
     let p = taken_passes file left taken in
     let at : (told_taken p.source).target ≡ file = target_told file p.source.target p.passes in
@@ -189,7 +161,7 @@ own_has file done left own h unrefused took some (inl taken) =
     by_above p at (inl none) pairs = absurd (omega (arith, at, none, some))
     by_above p at (inr above) pairs =
         let over : took.most < file = subst (λ (n : ℕ). took.most < n) at above in
-        has_file file done left own p.source h unrefused took p.among (or_both (p.source.file.0 == file) ((told_taken p.source).target == file) (inr (eq-eqb (told_taken p.source).target file at))) (none_gone_above took.most file own over took.ended) (target_apart file own done left p.source some at pairs p.among)
+        has_file file done left own p.source h unrefused took p.among (or_right (p.source.file.0 == file) ((told_taken p.source).target == file) (eq-eqb (told_taken p.source).target file at)) (none_gone_above took.most file own over took.ended) (target_apart file own done left p.source some at pairs p.among)
 
 -- ---- by stage
 

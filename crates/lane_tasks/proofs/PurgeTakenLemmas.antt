@@ -3,16 +3,11 @@ use Rattle.lane_tasks.proofs.Common.{◌≡◌, ◌==◌, ◌+◌, ℕ, Bool, tr
 use Rattle.lane_tasks.proofs.Common.{sum_by-cons, FileNo, Reply, RunEvent, Run, TakenFile, is_one_of, own_events, is_done, gave_back, is_storing, took_file, StoreValue, Emptied, Taken, claims_of_sources, claims_of_switched, claims_of_target, purge_claims, sources_left, PurgeValue, IsAtPurgeStage}
 use Rattle.lane_tasks.proofs.Common.{PurgeStage, Source}
 use Rattle.std.specs.Prelude.{◌++◌}
-use Rattle.std.proofs.lemmas.Bool.{or_cases, or_parts, and_from, eqb-true, and_parts}
+use Rattle.std.proofs.lemmas.Bool.{or_cases, or_parts, and_from, eqb-true, and_parts, or_left, or_right, both_ways}
 use Rattle.purge_task.specs.Stages.{HaveTaken, IsAtSwitched, told_taken}
 use Rattle.purge_task.specs.declared.task.PurgeStage.TheVariants as stage
 
 -- ---- tests
-
-pub or_both : (a b : Bool) → (a ≡ true) ⊎ (b ≡ true) → (a || b) ≡ true
-or_both true b e = refl
-or_both false b (inl e) = absurd (let z : false ≡ true = e in cc z)
-or_both false b (inr e) = e
 
 -- ---- what was taken
 
@@ -22,14 +17,10 @@ is_of file t = (t.file == file) || (t.target == file)
 
 all_taken : (file : ℕ) (own : List RunEvent) → list_any (took_file file) own ≡ true → list_any (is_of file) (flat_map (λ (e : RunEvent). e.files) own) ≡ true
 all_taken file [] is = absurd (let z : false ≡ true = is in cc z)
-all_taken file (x ∷ own) is =
-    list_any-append (is_of file) x.files (flat_map (λ (e : RunEvent). e.files) own)
-    ∙ or_both (list_any (is_of file) x.files) (list_any (is_of file) (flat_map (λ (e : RunEvent). e.files) own)) (by_first (or_cases (took_file file x) (list_any (took_file file) own) is) (λ later. all_taken file own later))
-  where
-    by_first : (took_file file x ≡ true) ⊎ (list_any (took_file file) own ≡ true) → (list_any (took_file file) own ≡ true → list_any (is_of file) (flat_map (λ (e : RunEvent). e.files) own) ≡ true)
-        → (list_any (is_of file) x.files ≡ true) ⊎ (list_any (is_of file) (flat_map (λ (e : RunEvent). e.files) own) ≡ true)
-    by_first (inl took) rest = inl (and_parts (is_none x.refused) (list_any (is_of file) x.files) took).1
-    by_first (inr later) rest = inr (rest later)
+all_taken file (x ∷ own) is = elim (or_cases (took_file file x) (list_any (took_file file) own) is) [
+  | inl took ↦ list_any-append (is_of file) x.files (flat_map (λ (e : RunEvent). e.files) own) ∙ or_left (list_any (is_of file) x.files) _ (and_parts (is_none x.refused) (list_any (is_of file) x.files) took).1
+  | inr later ↦ list_any-append (is_of file) x.files (flat_map (λ (e : RunEvent). e.files) own) ∙ or_right (list_any (is_of file) x.files) _ (all_taken file own later)
+]
 
 -- ---- what was given back
 
@@ -48,13 +39,10 @@ none_gone file (x ∷ own) none =
     ap (λ (b : Bool). b || list_any (is_gone file) own) first.1 ∙ rest
 
 first_back : (file : ℕ) (own : List RunEvent) (s : Source) → is_done own (told_taken s) ≡ true → list_any (is_gone file) own ≡ false → is_target_done file own (told_taken s) ≡ false → is_of file (told_taken s) ≡ true → ⊥
-first_back file own s done gone apart is = by_which (or_cases (s.file.0 == file) ((told_taken s).target == file) is)
-  where
-    by_which : ((s.file.0 == file) ≡ true) ⊎ (((told_taken s).target == file) ≡ true) → ⊥
-    by_which (inl at) =
-        let at_file : list_any (is_gone file) own ≡ true = subst (λ (n : ℕ). list_any (is_gone n) own ≡ true) (eqb-true s.file.0 file at) done in
-        let z : true ≡ false = sym at_file ∙ gone in cc z
-    by_which (inr at) = let z : true ≡ false = sym (and_from ((told_taken s).target == file) (is_done own (told_taken s)) at done) ∙ apart in cc z
+first_back file own s done gone apart is = elim (or_cases (s.file.0 == file) ((told_taken s).target == file) is) [
+  | inl at ↦ both_ways (list_any (is_gone file) own) gone (subst (λ (n : ℕ). list_any (is_gone n) own ≡ true) (eqb-true s.file.0 file at) done)
+  | inr at ↦ both_ways (is_target_done file own (told_taken s)) apart (and_from ((told_taken s).target == file) (is_done own (told_taken s)) at done)
+]
 
 -- a file that is done was given back, so it is one of the others
 among_left : (file : ℕ) (own : List RunEvent) (done left : List Source) → All (λ source. is_done own (told_taken source) ≡ true) done → list_any (is_gone file) own ≡ false → list_any (is_target_done file own) (map told_taken (done ++ left)) ≡ false
@@ -62,13 +50,10 @@ among_left : (file : ℕ) (own : List RunEvent) (done left : List Source) → Al
 among_left file own [] left are gone back is = is
 among_left file own (s ∷ done) left are gone back is =
     let apart = or_parts (is_target_done file own (told_taken s)) (list_any (is_target_done file own) (map told_taken (done ++ left))) back in
-    by_first apart.0 (or_cases (is_of file (told_taken s)) (list_any (is_of file) (map told_taken (done ++ left))) is)
-    (λ later. among_left file own done left (All-tail (λ (source : Source). is_done own (told_taken source) ≡ true) s done are) gone apart.1 later)
-  where
-    by_first : is_target_done file own (told_taken s) ≡ false → (is_of file (told_taken s) ≡ true) ⊎ (list_any (is_of file) (map told_taken (done ++ left)) ≡ true) → (list_any (is_of file) (map told_taken (done ++ left)) ≡ true → list_any (is_of file) (map told_taken left) ≡ true)
-        → list_any (is_of file) (map told_taken left) ≡ true
-    by_first apart (inl first) rest = absurd (first_back file own s (All-head (λ (source : Source). is_done own (told_taken source) ≡ true) s done are) gone apart first)
-    by_first apart (inr later) rest = rest later
+    elim (or_cases (is_of file (told_taken s)) (list_any (is_of file) (map told_taken (done ++ left))) is) [
+      | inl first ↦ absurd (first_back file own s (All-head (λ (source : Source). is_done own (told_taken source) ≡ true) s done are) gone apart.0 first)
+      | inr later ↦ among_left file own done left (All-tail (λ (source : Source). is_done own (told_taken source) ≡ true) s done are) gone apart.1 later
+    ]
 
 -- ---- what is claimed
 

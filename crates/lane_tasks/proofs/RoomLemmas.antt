@@ -1,7 +1,8 @@
 -- What tasks claim leaves room for their next events.
-use Rattle.lane_tasks.proofs.Common.{◌≡◌, ◌+◌, ℕ, false, List, [], ◌∷◌, Option, Some, None, refl, sym, ◌∙◌, ap, subst, arith, ◌≤◌, drop, option_map_or, All-cons, All-nil, All-head, All-tail, sum_by-cons, History, Request, Lists, Around, AreFilesInOrder, IsStore, StoreValue, Claims, Held, MakeStage}
+use Rattle.lane_tasks.proofs.Common.{◌≡◌, ◌+◌, ℕ, false, List, [], ◌∷◌, Option, Some, None, refl, sym, ◌∙◌, ap, subst, arith, ◌≤◌, drop, option_map_or, All-head, All-tail, sum_by-cons, History, Request, Lists, Around, AreFilesInOrder, IsStore, StoreValue, Claims, Held, MakeStage}
 use Rattle.lane_tasks.proofs.Common.{make_claims, SaveValue, SaveStage, claims_of_sources, claims_of_switched, claims_of_target, purge_claims, sources_left, PurgeStage, Source, IsReadyTask, claims_at, Task}
 use Rattle.std.proofs.Common.{◌*◌, All, length}
+use Rattle.std.proofs.lemmas.List.Elements.{All-weaker}
 use Rattle.mdbox_base.specs.declared.ids.InstId.{InstId}
 use Rattle.mdbox_base.specs.declared.requests.Request.TheVariants as request
 use Rattle.storage_files.specs.declared.file.MailFile.{MailFile}
@@ -28,7 +29,7 @@ make_pins : (now : MakeStage) (file : ℕ) → make_claims now (Pinned file) ≡
 make_pins make_stage.First file = refl
 make_pins (make_stage.Naming number) file = refl
 
-make_holds : (now : MakeStage) (id : InstId) → make_claims now (Held id) ≡ 0
+pub make_holds : (now : MakeStage) (id : InstId) → make_claims now (Held id) ≡ 0
 make_holds make_stage.First id = refl
 make_holds (make_stage.Naming number) id = refl
 
@@ -90,12 +91,10 @@ total_few thing most (mine ∷ rest) few =
     by_sum m r n t e a b = let d : (n + 1) * most ≡ n * most + most = omega arith in omega (arith, e, a, b, d)
 
 few_pins : (file : ℕ) (each : List Claims) → All ClaimsFew each → All (λ mine. mine (Pinned file) ≤ 1) each
-few_pins file [] few = All-nil (λ (mine : Claims). mine (Pinned file) ≤ 1)
-few_pins file (mine ∷ rest) few = All-cons (λ (one : Claims). one (Pinned file) ≤ 1) mine rest ((All-head ClaimsFew mine rest few).pinned file) (few_pins file rest (All-tail ClaimsFew mine rest few))
+few_pins file = All-weaker ClaimsFew (λ (mine : Claims). mine (Pinned file) ≤ 1) (λ mine few. few.pinned file)
 
 few_holds : (id : InstId) (each : List Claims) → All ClaimsFew each → All (λ mine. mine (Held id) ≤ 65535) each
-few_holds id [] few = All-nil (λ (mine : Claims). mine (Held id) ≤ 65535)
-few_holds id (mine ∷ rest) few = All-cons (λ (one : Claims). one (Held id) ≤ 65535) mine rest ((All-head ClaimsFew mine rest few).held id) (few_holds id rest (All-tail ClaimsFew mine rest few))
+few_holds id = All-weaker ClaimsFew (λ (mine : Claims). mine (Held id) ≤ 65535) (λ mine few. few.held id)
 
 pub room_left : {D : Type 0} → (store : StoreValue D) (each : List Claims) → AddsUp store each → length each ≤ 64 → All ClaimsFew each → HasUseRoom store
 room_left store each adds short few = record {

@@ -2,7 +2,7 @@
 use Rattle.lane_tasks.proofs.Common.{◌≡◌, ◌<◌, ℕ, Bool, true, false, List, Option, Some, None, refl, sym, ◌∙◌, ap, subst, arith, ◌≤◌, History, Faults, Uid, Progress, Refusal, Reply, Request, Lists, MapMeaning, Run, RunEvent, and_then, Around, AreFilesInOrder, IsStore, StoreValue, ended_by}
 use Rattle.lane_tasks.proofs.Common.{MakeAnswers, IsAt, MakeStage, IsAtFetch, FetchStage, save_claims, SaveEffects, IsAtSave, IsReadyToDeliver, SaveValue, PurgeValue, IsMakeNumber, TookNoFile, work_left, Task}
 use Rattle.std.proofs.Common.{◌-◌}
-use Rattle.std.specs.Prelude.{◌==◌, is_some}
+use Rattle.std.specs.Prelude.{◌==◌, is_some, ◌↔◌}
 use Rattle.std.proofs.lemmas.Bool.{eqb-true}
 use Rattle.mdbox_base.specs.declared.entries.Highest.{Highest}
 use Rattle.mdbox_base.specs.declared.progress.Did.{Did}
@@ -38,7 +38,6 @@ use Rattle.mail_fetch.specs.Task.{FetchValue, seen_in}
 use Rattle.mail_fetch.specs.declared.task.FetchStage.TheVariants as fetch_stage
 use Rattle.mail_save.specs.Ready.{IsReadyToSave}
 use Rattle.mail_save.specs.SaveSeen.{HasItsParts, StepsWithRoom, around_saving}
-use Rattle.mail_save.specs.Task.{EndsSave}
 use Rattle.mail_save.proofs.SavePartLemmas.{ready_has_parts}
 use Rattle.purge_task.specs.Clause.{PurgeSteps, TellsUses, around_purging}
 use Rattle.purge_task.specs.Stages.{IsAtPurge}
@@ -48,7 +47,7 @@ use Rattle.lane_tasks.specs.Clause.{DoomsNone, FindsAround, LeavesUndoomed, Sets
 use Rattle.lane_tasks.specs.Tasks.{IsAtTask, IsDeliveryOf, IsTaskOf, TookFiles, did_of}
 use Rattle.lane_tasks.specs.declared.task.Task.TheVariants as task
 use Rattle.lane_tasks.proofs.NamedLemmas.{names_on}
-use Rattle.lane_tasks.proofs.FilesLemmas.{IsPlain, TakesNone, fetch_takes_none, takes_none, took_none_more}
+use Rattle.lane_tasks.proofs.FilesLemmas.{TouchesNoMail, TakesNone, fetch_takes_none, takes_none, took_none_more}
 use Rattle.lane_tasks.proofs.PurgeApartLemmas.{apart_on}
 
 -- of a task that takes no files, and whose next value is of its request, in a store that keeps its files as they are, with what its event found
@@ -144,11 +143,11 @@ pub rename_does : {D : Type 0} → (t u : RenameValue) (old new : StoreValue D) 
 rename_does t u old new before after began now ended same rest steps =
     steps_by (task.Rename t) (task.Rename u) (request.Rename t.name t.target) old new before after began now ended (λ asked is. (is, is ∙ rename_request t u same)) (takes_none (request.Rename t.name t.target) tt) (rest_files old new rest) (λ run place took. took) (λ run place took. took) (λ asked around. refl) steps
 
-ops_plain : (q : Request) → IsOpsRequest q → IsPlain q
-ops_plain (request.Deliver name time octets) is = is
-ops_plain (request.Fetch name uid) is = is
-ops_plain request.Purge is = is
-ops_plain other is = tt
+ops_leave : (q : Request) → IsOpsRequest q → TouchesNoMail q
+ops_leave (request.Deliver name time octets) is = is
+ops_leave (request.Fetch name uid) is = is
+ops_leave request.Purge is = is
+ops_leave other is = tt
 
 -- a task that replied so is of such a request
 pub ops_asked : {D : Type 0} → (q : Request) (old new : StoreValue D) (given : Reply) → Replies q old new given → IsOpsRequest q
@@ -160,7 +159,7 @@ ops_asked other old new given r = absurd r
 pub ops_does : {D : Type 0} → (t u : TaskValue) (old new : StoreValue D) (before after : Option History) (began now : Faults) (ended : Option Reply) → IsOpsRequest t.request → u.request ≡ t.request → KeepsRest old new
     → StepsFrom (IsAt t.stage) (IsAt u.stage) t.request old new before after began now u.did ended → StepsTask (task.Ops t) (task.Ops u) old new before after began now ended
 ops_does t u old new before after began now ended is_ops same rest steps =
-    steps_by (task.Ops t) (task.Ops u) t.request old new before after began now ended (λ asked is. (is, is ∙ sym same)) (takes_none t.request (ops_plain t.request is_ops)) (rest_files old new rest) (λ run place took. took) (λ run place took. took) (λ asked around. refl) steps
+    steps_by (task.Ops t) (task.Ops u) t.request old new before after began now ended (λ asked is. (is, is ∙ sym same)) (takes_none t.request (ops_leave t.request is_ops)) (rest_files old new rest) (λ run place took. took) (λ run place took. took) (λ asked around. refl) steps
 
 pub counts_does : {D : Type 0} → (t u : Did) (store : StoreValue D) (history : Option History) (faults : Faults) (ended : Option Reply) → StepsFrom HasNotBegun HasNotBegun request.Counts store store history history faults faults u ended
     → StepsTask (task.Counts t) (task.Counts u) store store history history faults faults ended
@@ -225,9 +224,7 @@ make_fewer name t u old new before after answer said more fewer =
 
 pub use_room : {D : Type 0} → (now : FetchStage) (store : StoreValue D) → HasUseRoom store → HasFetchRoom now store
 use_room fetch_stage.First store room = room
-use_room (fetch_stage.Reading region) store room = tt
-use_room (fetch_stage.Unpinning from given) store room = tt
-use_room (fetch_stage.Removing file given) store room = tt
+use_room now store room = tt
 
 fetch_request : (t u : FetchValue) → (u.name ≡ t.name) × (u.uid ≡ t.uid) → request.Fetch t.name t.uid ≡ request.Fetch u.name u.uid
 fetch_request t u e = let n = e.0 in let i = e.1 in cc (n, i)
@@ -422,9 +419,9 @@ request_stays (task.Purge t) (task.Purge next) asked same is = is
 request_stays t next asked same is = absurd same
 
 -- one that goes on ran in a store that runs
-pub deliver_ran : {D : Type 0} → (old new : StoreValue D) (answer : Progress) → EndsSave answer old new → answer ≡ progress.More → old.stopped ≡ false
-deliver_ran old new answer ends more = by_test new.stopped refl
+pub more_ran : {D : Type 0} → (old new : StoreValue D) (answer : Progress) → ((answer ≡ progress.Done (reply.Refused refusal.Stopped)) ↔ (new.stopped ≡ true)) → (old.stopped ≡ true → new ≡ old) → answer ≡ progress.More → old.stopped ≡ false
+more_ran old new answer halts still more = by_test new.stopped refl
   where
     by_test : (b : Bool) → new.stopped ≡ b → old.stopped ≡ false
-    by_test true is = absurd (let k : progress.More ≡ progress.Done (reply.Refused refusal.Stopped) = sym more ∙ ends.stopped.1 is in cc k)
-    by_test false is = ran_before old.stopped new.stopped (λ stopped. ap (λ (s : StoreValue _). s.stopped) (ends.still stopped) ∙ stopped) is
+    by_test true is = absurd (let k : progress.More ≡ progress.Done (reply.Refused refusal.Stopped) = sym more ∙ halts.1 is in cc k)
+    by_test false is = ran_before old.stopped new.stopped (stays_stopped old new still) is

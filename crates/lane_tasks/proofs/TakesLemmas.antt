@@ -5,7 +5,6 @@ use Rattle.std.proofs.Common.{◌≤◌, ◌&&◌, ◌||◌}
 use Rattle.std.specs.List.{AllByRecursion}
 use Rattle.std.proofs.lemmas.Bool.{eqb-true, or_left, or_right, and_from, or_from, and_right}
 use Rattle.mdbox_base.specs.declared.requests.Request.TheVariants as request
-use Rattle.list_machine.specs.Run.{Compares, PlacesInstance}
 use Rattle.mail_fetch.specs.declared.task.FetchStage.TheVariants as fetch_stage
 use Rattle.mail_ops.specs.declared.making.MakeStage.TheVariants as make_stage
 use Rattle.mail_save.specs.SaveStages.{AreAttachedSoFar, HasAttached, TookFile}
@@ -53,11 +52,7 @@ keeping_both (e ∷ a) b x y = (x.0, keeping_both a b x.1 y)
 -- ---- a delivery
 
 attached_keep : (event : RunEvent) → HasAttached event → Keeps event
-attached_keep event h = record { part = by_part h.part; doomed = ap (λ (e : RunEvent). e.doomed) h.did; removed = ap (λ (e : RunEvent). e.removed) h.did }
-  where
-    by_part : (event.part ≡ Compares) ⊎ (event.part ≡ PlacesInstance) → is_storing event.part ≡ false
-    by_part (inl is) = ap is_storing is
-    by_part (inr is) = ap is_storing is
+attached_keep event h = record { part = elim h.part [ inl is ↦ ap is_storing is | inr is ↦ ap is_storing is ]; doomed = ap (λ (e : RunEvent). e.doomed) h.did; removed = ap (λ (e : RunEvent). e.removed) h.did }
 
 all_keep : (events : List RunEvent) → AllByRecursion HasAttached events → AllByRecursion Keeps events
 all_keep [] all = tt
@@ -66,11 +61,7 @@ all_keep (e ∷ more) all = (attached_keep e all.0, all_keep more all.1)
 front_keeps : (rows : List InstRow) (own : List RunEvent) → AreAttachedSoFar rows own → AllByRecursion Keeps own
 front_keeps rows own a =
     let first : Keeps a.first = record { part = ap is_storing a.laid.part; doomed = ap (λ (e : RunEvent). e.doomed) a.laid.did; removed = ap (λ (e : RunEvent). e.removed) a.laid.did } in
-    let all : AllByRecursion Keeps (a.first ∷ a.more) = (first, all_keep a.more a.attached) in
-    by_own own a.own_are all
-  where
-    by_own : (own : List RunEvent) → own ≡ a.first ∷ a.more → AllByRecursion Keeps (a.first ∷ a.more) → AllByRecursion Keeps own
-    by_own own is all = subst (AllByRecursion Keeps) (sym is) all
+    subst (AllByRecursion Keeps) (sym a.own_are) (first, all_keep a.more a.attached)
 
 took_keeps : (file : ℕ) (event : RunEvent) → TookFile file event → Keeps event
 took_keeps file event t = record { part = ap is_storing t.part; doomed = ap (λ (e : RunEvent). e.doomed) t.did; removed = ap (λ (e : RunEvent). e.removed) t.did }

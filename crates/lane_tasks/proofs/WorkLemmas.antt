@@ -1,8 +1,8 @@
 -- No event of another task raises the number of events that are still to come.
-use Rattle.lane_tasks.proofs.Common.{◌<◌, ◌+◌, ℕ, Bool, Option, ap, arith, inl, inr, ◌≤◌, ◌⊎◌, History, StoreValue, Claims, MakeStage, SaveStage, IsMakeNumber, IsReadyTask, work_left, Task}
+use Rattle.lane_tasks.proofs.Common.{◌+◌, ℕ, Option, arith, ◌≤◌, History, StoreValue, Claims, MakeStage, SaveStage, IsMakeNumber, IsReadyTask, work_left, Task}
 use Rattle.std.proofs.Common.{◌*◌, ◌-◌}
 use Rattle.std.specs.Prelude.{nat_lt, if◌then◌else◌}
-use Rattle.std.proofs.lemmas.Bool.{cases_lt, lt-ltb, le-ltb}
+use Rattle.std.proofs.lemmas.Bool.Decides.{nat_tests}
 use Rattle.sis_store.specs.Instances.{InstancesValue}
 use Rattle.task_claims.specs.Leaving.{LeavesOthers, PlacesFew}
 use Rattle.save_instances.specs.Attaching.{nothing_found}
@@ -18,22 +18,7 @@ use Rattle.lane_tasks.specs.declared.task.Task.TheVariants as task
 
 -- a number that is overtaken was overtaken by a mailbox
 naming_left : (n was is : ℕ) → n ≤ 4294967294 → was ≤ is → (if nat_lt is n then 1 else 3) + 2 * (4294967295 - is) ≤ (if nat_lt was n then 1 else 3) + 2 * (4294967295 - was)
-naming_left n was is high grows = by_now (cases_lt is n) (cases_lt was n)
-  where
-    by_now : (is < n) ⊎ (n ≤ is) → (was < n) ⊎ (n ≤ was) → (if nat_lt is n then 1 else 3) + 2 * (4294967295 - is) ≤ (if nat_lt was n then 1 else 3) + 2 * (4294967295 - was)
-    by_now (inl below) (inl under) =
-        let a = ap {B = ℕ} (λ (b : Bool). if b then 1 else 3) (lt-ltb is n below) in
-        let b = ap {B = ℕ} (λ (b : Bool). if b then 1 else 3) (lt-ltb was n under) in
-        omega (arith, a, b, grows)
-    by_now (inl below) (inr over) = absurd (omega (arith, below, over, grows))
-    by_now (inr above) (inl under) =
-        let a = ap {B = ℕ} (λ (b : Bool). if b then 1 else 3) (le-ltb is n above) in
-        let b = ap {B = ℕ} (λ (b : Bool). if b then 1 else 3) (lt-ltb was n under) in
-        omega (arith, a, b, above, under, high)
-    by_now (inr above) (inr over) =
-        let a = ap {B = ℕ} (λ (b : Bool). if b then 1 else 3) (le-ltb is n above) in
-        let b = ap {B = ℕ} (λ (b : Bool). if b then 1 else 3) (le-ltb was n over) in
-        omega (arith, a, b, grows)
+naming_left n was is high grows = grind (arith, nat_tests)
 
 make_keeps : {D : Type 0} → (now : MakeStage) (old new : StoreValue D) → IsMakeNumber now → old.map.highest.mailbox ≤ new.map.highest.mailbox → make_left now new + 2 * (4294967295 - new.map.highest.mailbox) ≤ make_left now old + 2 * (4294967295 - old.map.highest.mailbox)
 make_keeps make_stage.First old new high grows = omega (arith, grows)
