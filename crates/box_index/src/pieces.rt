@@ -229,11 +229,7 @@ fn begin_piece(earlier: &mut Vec<Piece>, last: &mut Piece) -> Result<(), NoMemor
 }
 
 /// Follows a piece by one without rows, which has room for so many.
-fn begin_piece_for(
-    earlier: &mut Vec<Piece>,
-    last: &mut Piece,
-    rows: usize,
-) -> Result<(), NoMemory>
+fn begin_piece_for(earlier: &mut Vec<Piece>, last: &mut Piece, rows: usize) -> Result<(), NoMemory>
     requires some { 1 ≤ length last.old.rows }
     requires few { rows ≤ 1024 }
     ensures ok { OnOk result (rows ≤ last.new.room) }

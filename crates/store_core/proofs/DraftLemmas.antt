@@ -12,7 +12,7 @@ use Rattle.model_appends.proofs.AppendOpenLemmas.{box_more_good, rows_have}
 use Rattle.model_meaning.proofs.BoxLemmas.{box_more}
 use Rattle.model_meaning.specs.BoxMeaning.{BoxFits}
 use Rattle.model_store.specs.Opening.{AreBoxEntries}
-use Rattle.store_core.specs.Drafts.{AllFitBehind, AreTextsOf}
+use Rattle.store_core.specs.Drafts.{AllFitBehind, AreEntryTexts}
 
 -- ---- the texts of entries
 
@@ -41,10 +41,10 @@ some_text (entry.F u f) = omega arith
 some_text (entry.K u w) = omega arith
 some_text (entry.R u) = omega arith
 
-texts_more : (entries : List BoxEntry) (e : BoxEntry) (octets lengths octets_now lengths_now : List ℕ) → AreTextsOf entries octets lengths → octets_now ≡ octets ++ box_text e → lengths_now ≡ lengths ++ length (box_text e) ∷ [] → AreTextsOf (entries ++ e ∷ []) octets_now lengths_now
+texts_more : (entries : List BoxEntry) (e : BoxEntry) (octets lengths octets_now lengths_now : List ℕ) → AreEntryTexts entries octets lengths → octets_now ≡ octets ++ box_text e → lengths_now ≡ lengths ++ length (box_text e) ∷ [] → AreEntryTexts (entries ++ e ∷ []) octets_now lengths_now
 texts_more entries e octets lengths octets_now lengths_now t o l =
-    subst (λ (os : List ℕ). AreTextsOf (entries ++ e ∷ []) os lengths_now) (sym o)
-    (subst (λ (ls : List ℕ). AreTextsOf (entries ++ e ∷ []) (octets ++ box_text e) ls) (sym l)
+    subst (λ (os : List ℕ). AreEntryTexts (entries ++ e ∷ []) os lengths_now) (sym o)
+    (subst (λ (ls : List ℕ). AreEntryTexts (entries ++ e ∷ []) (octets ++ box_text e) ls) (sym l)
     (record {
       cut = cut-more lengths octets (length (box_text e)) (box_text e) t.whole refl ∙ ap (λ (ts : List (List ℕ)). ts ++ box_text e ∷ []) t.cut ∙ sym (map-append box_text entries (e ∷ []));
       whole = sum-more lengths octets (box_text e) t.whole;
@@ -52,11 +52,11 @@ texts_more entries e octets lengths octets_now lengths_now t o l =
       many = let a = length-append lengths (length (box_text e) ∷ []) in let b = length-append entries (e ∷ []) in let c = t.many in omega (arith, a, b, c);
     }))
 
-pub texts_step : (entries : List BoxEntry) (i : ℕ) (e : BoxEntry) (octets lengths octets_now lengths_now : List ℕ) → i < length entries → e ≡ get_or entries i e → AreTextsOf (take i entries) octets lengths → octets_now ≡ octets ++ box_text e
-    → lengths_now ≡ lengths ++ length (box_text e) ∷ [] → AreTextsOf (take (i + 1) entries) octets_now lengths_now
+pub texts_step : (entries : List BoxEntry) (i : ℕ) (e : BoxEntry) (octets lengths octets_now lengths_now : List ℕ) → i < length entries → e ≡ get_or entries i e → AreEntryTexts (take i entries) octets lengths → octets_now ≡ octets ++ box_text e
+    → lengths_now ≡ lengths ++ length (box_text e) ∷ [] → AreEntryTexts (take (i + 1) entries) octets_now lengths_now
 texts_step entries i e octets lengths octets_now lengths_now below is t o l =
     let more : take (i + 1) entries ≡ take i entries ++ e ∷ [] = take_more entries i e below ∙ ap (λ (x : BoxEntry). take i entries ++ x ∷ []) (sym is) in
-    subst (λ (es : List BoxEntry). AreTextsOf es octets_now lengths_now) (sym more) (texts_more (take i entries) e octets lengths octets_now lengths_now t o l)
+    subst (λ (es : List BoxEntry). AreEntryTexts es octets_now lengths_now) (sym more) (texts_more (take i entries) e octets lengths octets_now lengths_now t o l)
 
 -- ---- what a draft means with entries more
 

@@ -25,7 +25,7 @@ use Rattle.model_octets.proofs.SearchLemmas.{found_one}
 -- ---- what crashes leave
 
 pub leaves_only : (lists after : Lists) (old new : Option History) → Leaves lists lists old new → Leaves lists after old new
-leaves_only lists after old new l = each_image-map (λ _ image. Safe image lists ⊎ Safe image lists) (λ _ image. Safe image lists ⊎ Safe image after) old new (λ moment image s. elim s [ | inl x ↦ inl x | inr x ↦ inl x ]) l
+leaves_only lists after old new l = each_image-map (λ _ image. Safe image lists ⊎ Safe image lists) (λ _ image. Safe image lists ⊎ Safe image after) old new (λ moment image s. elim s [ inl x ↦ inl x | inr x ↦ inl x ]) l
 
 pub leaves_first : (lists after : Lists) (old now new : Option History) → Leaves lists lists old now → Leaves lists after now new → Leaves lists after old new
 leaves_first lists after old now new first second = each_image-then (λ _ image. Safe image lists ⊎ Safe image after) old now new (leaves_only lists after old now first) second
@@ -33,7 +33,7 @@ leaves_first lists after old now new first second = each_image-then (λ _ image.
 pub leaves_last : (lists after : Lists) (old now new : Option History) → Leaves lists after old now → Leaves after after now new → Leaves lists after old new
 leaves_last lists after old now new first second =
     each_image-then (λ _ image. Safe image lists ⊎ Safe image after) old now new first
-    (each_image-map (λ _ image. Safe image after ⊎ Safe image after) (λ _ image. Safe image lists ⊎ Safe image after) now new (λ moment image s. elim s [ | inl x ↦ inr x | inr x ↦ inr x ]) second)
+    (each_image-map (λ _ image. Safe image after ⊎ Safe image after) (λ _ image. Safe image lists ⊎ Safe image after) now new (λ moment image s. elim s [ inl x ↦ inr x | inr x ↦ inr x ]) second)
 
 -- ---- what is stored, and what is listed of it
 
@@ -90,7 +90,7 @@ none_in_rows m uid (row ∷ rows) none h =
     let a = sum_by-cons (λ (x : LogRow). bit (x.map_uid == uid)) row rows in
     let own = All-head (HasItsRecord m) row rows h in
     let b : bit (row.map_uid == uid) ≡ 0 = ap bit (ne_eqb row.map_uid uid (λ (e : row.map_uid ≡ uid).
-        let w : None ≡ Some own.0 = sym none ∙ ap (λ (n : ℕ). find (λ (r : MapRecord). r.uid == n) m.records) (sym e) ∙ own.1 in absurd (cc w))) in
+    let w : None ≡ Some own.0 = sym none ∙ ap (λ (n : ℕ). find (λ (r : MapRecord). r.uid == n) m.records) (sym e) ∙ own.1 in absurd (cc w))) in
     let c = none_in_rows m uid rows none (All-tail (HasItsRecord m) row rows h) in
     omega (arith, a, b, c)
 

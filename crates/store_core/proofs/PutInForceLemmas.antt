@@ -2,7 +2,7 @@
 use Rattle.store_core.proofs.Common.{◌⊎◌, inl, inr, ◌≡◌, ◌≢◌, ◌<◌, ◌≤◌, ◌+◌, ◌-◌, ◌==◌, ℕ, Bool, true, false, if◌then◌else◌, List, [], ◌∷◌, ◌++◌, map, find, length, slice_set, slice_index_or, Option, Some, None, All, refl, sym, ◌∙◌, ap, subst, arith, map-append, All-nil, All-head, All-tail, All-weaker, All-contains, sum_by, count_by}
 use Rattle.store_core.proofs.Common.{Files, DiskState, History, IfTold, IsImage, SameButFor, reading, FileName, if_told-map, LogState, IsSameLog, IsLogHeld, IsLogRead, Reads, Holds, BoxEntry, MapEntry, BoxNo, HasOneMore, Lists, box_text, map_text, MapInRange, IsLogFile, LogHead, map_more, BoxMeaning, box_meaning, rows_after, MapFits}
 use Rattle.store_core.proofs.Common.{MapRecord, MapBox, MapMeaning, map_meaning, map_applied, map_same, root_same, AreGoodLogs, Opens, IsCounted, HasItsRecord, SafeBy, files_of, IsSettled, IsSettledFor, Leaves, HasBox, AddsText, LiesBelowEnd, AreBoxLogs, ReadBoxLogs, IsRunning, CoverDues, IsUpTo, IsStore, StoreValue, indexes_of}
-use Rattle.store_core.proofs.Common.{OpenBox, listed_of, number_beside, due_at, leak_at, listed_at, list_numbered, head_of, equal_is, meaning_numbered, Highest, HasEntryRoom, entry_room}
+use Rattle.store_core.proofs.Common.{OpenBox, listed_of, number_beside, due_at, leak_at, listed_at, list_numbered, head_of, equal_is, meaning_numbered, Highest, HasEntryRoom, entry_room, false≢true, eq-eqb}
 use Rattle.std.specs.Prelude.{IsTrue, is_some, slice_get}
 use Rattle.std.specs.Option.{option_map}
 use Rattle.std.proofs.lemmas.List.Elements.{All-set}
@@ -18,7 +18,7 @@ use Rattle.model_meaning.proofs.MapSoundLemmas.{map_sound}
 use Rattle.model_meaning.specs.MapMeaning.{box_at}
 use Rattle.model_meaning.specs.SameMeaning.{MeansSame}
 use Rattle.model_meaning.specs.Sound.{IsSoundMap}
-use Rattle.model_octets.proofs.SearchLemmas.{found_one}
+use Rattle.model_octets.proofs.SearchLemmas.{found_none, found_one}
 use Rattle.model_store.proofs.SettledLemmas.{log_in}
 use Rattle.model_store.proofs.StandsLemmas.{log_same}
 use Rattle.model_store.specs.Opening.{AreBoxEntries, PassBoxes}
@@ -191,7 +191,7 @@ runs_then old new v disk draft b place log c same others added =
     let no_mail : (mail : ℕ) → file.Mail mail ≢ v.map_log.name = λ mail q. absurd (let p : file.Mail mail ≡ file.Map s.generation = q ∙ s.map_name in cc p) in
     let no_box : draft.log.name ≢ v.map_log.name = λ q. absurd (let p : file.Box draft.number.0 draft.generation ≡ file.Map s.generation = sym c.draft_held.drafted.name ∙ q ∙ s.map_name in cc p) in
     let read : Reads draft.log (map box_text c.draft_held.drafted.entries) new = reads_other v.map_log.name draft.log (map box_text c.draft_held.drafted.entries) old new others no_box
-        (if_told-map (IsLogHeld draft.log (map box_text c.draft_held.drafted.entries)) (IsLogRead draft.log (map box_text c.draft_held.drafted.entries)) old (λ disk h. h.reads) c.draft_held.held) in
+    (if_told-map (IsLogHeld draft.log (map box_text c.draft_held.drafted.entries)) (IsLogRead draft.log (map box_text c.draft_held.drafted.entries)) old (λ disk h. h.reads) c.draft_held.held) in
     record {
       opens = opens_then old new v draft b place log c same others added;
       root = root_stays v.map_log.name v.map.store s.generation old new others (λ q. absurd (let p : file.Root ≡ file.Map s.generation = q ∙ s.map_name in cc p)) runs.root;
@@ -393,3 +393,13 @@ pub settled_seen : {D : Type 0} → (H : D → Option History) (v now : StoreVal
 settled_seen H v now draft seen new is same settles =
     subst (λ (d : BoxDraftValue). (lists after : Lists) → GivesLists d now (H now.disk) lists after → IsSettledFor lists (H now.disk) → IsSettledFor after new) same
     (subst (λ (x : StoreValue _). (lists after : Lists) → GivesLists draft x (H x.disk) lists after → IsSettledFor lists (H x.disk) → IsSettledFor after new) is settles)
+
+-- ---- how many entries a log has
+
+-- a mailbox of the map has an open log
+pub unfound : {D : Type 0} → (h : Option History) (v now : StoreValue D) (n : ℕ) (found : List OpenBox) → IsStore h v → v ≡ now → IsTrue (is_some (box_at now.map n)) → found ≡ v.boxes → find (λ o. o.number.0 == n) found ≡ None → ⊥
+unfound h v now n found s is there boxes none =
+    let box = some_box (box_at v.map n) (subst (λ (x : StoreValue _). IsTrue (is_some (box_at x.map n))) (sym is) there) in
+    let others : All (λ (o : OpenBox). o.number.0 ≢ n) v.boxes = All-weaker (λ (o : OpenBox). (o.number.0 == n) ≡ false) (λ (o : OpenBox). o.number.0 ≢ n) (λ o no e. false≢true (sym no ∙ eq-eqb o.number.0 n e)) v.boxes
+    (found_none (λ (o : OpenBox). o.number.0 == n) v.boxes (subst (λ (bs : List OpenBox). find (λ (o : OpenBox). o.number.0 == n) bs ≡ None) boxes none)) in
+    let w : None ≡ Some box.0 = sym (none_at n v.map.store v.map.boxes v.boxes s.box_logs others) ∙ box.1 in cc w

@@ -94,7 +94,7 @@ abbrev pub IsOutOfForce : ℕ → ℕ → MapMeaning → Type 0
 IsOutOfForce number generation m = All (λ box. box.number ≡ number → box.generation ≢ generation) m.boxes
 
 -- These octets are the texts of the entries, one after another, and these are their lengths.
-pub record AreTextsOf (entries : List BoxEntry) (octets lengths : List ℕ) : Type 0 where
+pub record AreEntryTexts (entries : List BoxEntry) (octets lengths : List ℕ) : Type 0 where
   pub cut : cut_by lengths octets ≡ map box_text entries
   pub whole : sum lengths ≡ length octets
   pub some : All (λ size. 1 ≤ size) lengths

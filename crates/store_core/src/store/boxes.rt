@@ -267,7 +267,11 @@ pub(super) fn make_log<D: Disk>(
 }
 
 /// Removes the log of this generation of a mailbox, and syncs all names.
-pub(super) fn remove_log<D: Disk>(disk: &mut D, number: BoxNo, generation: u32) -> Result<(), DiskFault>
+pub(super) fn remove_log<D: Disk>(
+    disk: &mut D,
+    number: BoxNo,
+    generation: u32,
+) -> Result<(), DiskFault>
     ensures any_moment { EachImage (λ _ image. OthersStay (file.Box number.0 generation) (D.history disk.old) image) (D.history disk.old) (D.history disk.new) }
     ensures gone { OnOk result (IfTold (D.history disk.new) (λ now. now (file.Box number.0 generation) ≡ no_file)) }
     ensures others { OnOk result (NamedButFor (file.Box number.0 generation) (D.history disk.old) (D.history disk.new)) }

@@ -27,7 +27,7 @@ ghost use Rattle.store_core.specs.declared.error.StepError.TheVariants as step_e
 
 use super::append_map::append_entry;
 use super::boxes::{make_log, remove_log};
-use super::{OpenBox, Store};
+use super::{OpenBox, Store, with_number};
 use crate::append::place_of;
 use crate::box_draft::{BoxDraft, extend_in};
 use crate::error::StepError;
@@ -190,6 +190,24 @@ impl<D: Disk> Store<D> {
         self.put_in_force(draft)?;
         self.drop_log(mailbox, generation)?;
         Ok(())
+    }
+
+    /// How many entries the log of this mailbox of the map has.
+    pub fn box_entries(&self, mailbox: BoxNo) -> u64
+        requires { IsTrue (is_some (box_at self.now.map mailbox.0)) }
+        ensures { option_map (λ b. b.log.count) (find (λ b. b.number.0 == mailbox.0) self.now.boxes) ≡ Some result }
+    {
+        match with_number(&self.boxes, mailbox) {
+            Some(open_box) => open_box.log.count(),
+            None => unreachable!(),
+        }
+    }
+
+    /// How many entries the map log has.
+    pub fn map_entries(&self) -> u64
+        ensures { result ≡ self.now.map_log.count }
+    {
+        self.map_log.count()
     }
 
     /// Syncs a draft: a crash leaves it as it reads.

@@ -13,8 +13,7 @@ invariant_of-self g c =
     let d = draft_seen g.D.Disk.history _ c.args.self.now _ c.args.draft.now c.self.view_is c.draft.view_is c.requires.draft in
     let n = c.draft.inside.open_box.number.0 in
     let free = free_newer _ n c.draft.inside.generation d.newer in
-    let others = subst (λ name. SameButFor name (g.D.Disk.history c.self.inside.disk) (g.D.Disk.history c.settle.new.disk)) d.name c.in-Ok.ensures.others in
-    (
+    let others = subst (λ name. SameButFor name (g.D.Disk.history c.self.inside.disk) (g.D.Disk.history c.settle.new.disk)) d.name c.in-Ok.ensures.others in (
       c.self.invariant.0,
       store_beside n c.draft.inside.generation _ _ _ c.settle.new.disk c.self.inside.made.items c.self.invariant.1 runs free (besides_same (file.Box n c.draft.inside.generation) _ _ others),
       room_same _ _ refl refl c.self.invariant.2,
