@@ -56,3 +56,4 @@ pub mod DraftCallLemmas
 pub mod ReplacedLogLemmas
 pub mod PutInForceLemmas
 pub mod DraftSwitchLemmas
+pub mod MapDraftLemmas
