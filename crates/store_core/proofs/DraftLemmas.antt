@@ -1,6 +1,6 @@
 -- Drafts of mailbox logs: the texts of entries, and what a draft means with entries more.
-use Rattle.store_core.proofs.Common.{◌≡◌, ◌≤◌, ◌<◌, ◌+◌, ◌-◌, ℕ, List, [], ◌∷◌, ◌++◌, length, map, take, drop, All, Option, refl, sym, ◌∙◌, ap, subst, arith, append-nil, get_or, length-append, map-append, All-nil, All-cons, All-append, All-head, All-tail, History, IfTold, if_told-map, FileName}
-use Rattle.store_core.proofs.Common.{BoxEntry, box_text, BoxInRange, BoxMeaning, box_applied, box_meaning, row_made, HasItsRecord, MapMeaning, LogState, IsSameLog, Reads, IsLogRead, StoreValue, IsStore, head_of}
+use Rattle.store_core.proofs.Common.{◌≡◌, ◌≤◌, ◌<◌, ◌+◌, ◌-◌, ℕ, List, [], ◌∷◌, ◌++◌, length, take, drop, All, Option, refl, sym, ◌∙◌, ap, subst, arith, append-nil, get_or, length-append, map-append, All-nil, All-cons, All-append, All-head, All-tail, History, if_told-map}
+use Rattle.store_core.proofs.Common.{BoxEntry, box_text, BoxInRange, BoxMeaning, box_applied, box_meaning, row_made, HasItsRecord, MapMeaning, LogState, Reads, IsLogRead}
 use Rattle.std.proofs.Common.{fold, sum, append_assoc, length-drop}
 use Rattle.std.proofs.Math.Seq.{take-length}
 use Rattle.std.proofs.lemmas.List.{take-append-le, drop-append-le, take_more}
@@ -10,7 +10,6 @@ use Rattle.gate_log.specs.Log.{Drafts, IsLogDrafted, cut_by}
 use Rattle.mdbox_base.specs.declared.entries.BoxEntry.TheVariants as entry
 use Rattle.model_appends.proofs.AppendOpenLemmas.{box_more_good, rows_have}
 use Rattle.model_meaning.proofs.BoxLemmas.{box_more}
-use Rattle.model_meaning.specs.BoxMeaning.{BoxFits}
 use Rattle.model_store.specs.Opening.{AreBoxEntries}
 use Rattle.store_core.specs.Drafts.{AllFitBehind, AreEntryTexts}
 
