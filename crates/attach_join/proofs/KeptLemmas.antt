@@ -1,8 +1,8 @@
 -- Octets of instances that are kept in the ranges of their references.
-use Rattle.std.proofs.Common.{refl, ◌≡◌, ◌<◌, ◌≤◌, ◌+◌, ◌-◌, ◌*◌, ◌/◌, ℕ, zero, suc, List, [], ◌∷◌, ◌++◌, length, min, take, drop, sym, ◌∙◌, ap, subst, arith, append_assoc, append-nil, length-append, inl, inr, None, Option, Some}
+use Rattle.std.proofs.Common.{refl, ◌≡◌, ◌<◌, ◌≤◌, ◌+◌, ◌-◌, ◌*◌, ◌/◌, ℕ, List, [], ◌∷◌, ◌++◌, length, min, take, drop, sym, ◌∙◌, ap, subst, arith, append_assoc, append-nil, length-append, inl, inr, None, Option, Some}
 use Rattle.std.specs.Prelude.{All, Bool, IfSome, ◌==◌, if◌then◌else◌, replicate, sum_by, true}
 use Rattle.std.proofs.lemmas.Bool.Decides.{nat_tests}
-use Rattle.std.proofs.Math.Seq.{drop-append-add, drop-append_seam, take-append-add, take-append_seam}
+use Rattle.std.proofs.Math.Seq.{drop-append-add, drop-append_seam, take-append-add}
 use Rattle.std.proofs.lemmas.Bool.{cases_lt}
 use Rattle.std.proofs.lemmas.List.{drop-drop, drop-take, drop_all, length-drop, length-replicate, length-take-le, nil_from_length, take-append-drop, take-append-le, take-take, take_all}
 use Rattle.std.proofs.lemmas.List.Elements.{All-head, All-tail}
@@ -84,9 +84,10 @@ whole_texts place whole body [] (row ∷ rows) octets forms h long = absurd h
 whole_texts place whole body (ref ∷ refs) [] octets forms h long = absurd h
 whole_texts place whole body (ref ∷ refs) (row ∷ rows) octets forms h long =
     let sum : sizes (row ∷ rows) ≡ row.size + sizes rows = sum_by-cons (λ (x : InstRow). x.size) row rows in
-    let left = length-drop row.size octets in
-    (long_text ref row (take row.size octets) (All-head (λ (r : ExtRef). IfSome r.form IsForm) ref refs forms) (length-take-le row.size octets (omega (arith, long, sum))) h.6,
-     whole_texts (ref.start + ref.count) h.1 h.2 refs rows (drop row.size octets) (All-tail (λ (r : ExtRef). IfSome r.form IsForm) ref refs forms) h.7 (omega (arith, long, sum, left)))
+    let left = length-drop row.size octets in (
+      long_text ref row (take row.size octets) (All-head (λ (r : ExtRef). IfSome r.form IsForm) ref refs forms) (length-take-le row.size octets (omega (arith, long, sum))) h.6,
+      whole_texts (ref.start + ref.count) h.1 h.2 refs rows (drop row.size octets) (All-tail (λ (r : ExtRef). IfSome r.form IsForm) ref refs forms) h.7 (omega (arith, long, sum, left)),
+    )
 
 is_same : (m n : ℕ) → m ≡ n → (m == n) ≡ true
 is_same m n e = grind (arith, nat_tests)
@@ -364,3 +365,18 @@ kept_long place end (ref ∷ refs) (row ∷ rows) whole within fit forms most =
 
 pub kept_length : (stored : ℕ) (refs : List ExtRef) (rows : List InstRow) (whole : List ℕ) → FitInto (length whole) stored refs rows → AreForms refs → length (kept_in refs rows whole) ≡ sizes rows
 kept_length stored refs rows whole f forms = kept_long 0 (length whole) refs rows whole (all_within stored refs rows whole f) f.texts forms (omega arith)
+
+-- instances have no more octets than their whole
+few_sizes : (refs : List ExtRef) (rows : List InstRow) → TextsFit refs rows → AreForms refs → sizes rows ≤ counts refs
+few_sizes [] [] fit forms = omega arith
+few_sizes [] (row ∷ rows) fit forms = absurd fit
+few_sizes (ref ∷ refs) [] fit forms = absurd fit
+few_sizes (ref ∷ refs) (row ∷ rows) fit forms =
+    let one = row_fits ref row (All-head (λ (r : ExtRef). IfSome r.form IsForm) ref refs forms) fit.0 in
+    let rest = few_sizes refs rows fit.1 (All-tail (λ (r : ExtRef). IfSome r.form IsForm) ref refs forms) in
+    let a : sizes (row ∷ rows) ≡ row.size + sizes rows = sum_by-cons (λ (x : InstRow). x.size) row rows in
+    let b : counts (ref ∷ refs) ≡ ref.count + counts refs = sum_by-cons (λ (r : ExtRef). r.count) ref refs in
+    omega (arith, one, rest, a, b)
+
+pub sizes_within : (stored whole : ℕ) (refs : List ExtRef) (rows : List InstRow) → FitInto whole stored refs rows → AreForms refs → sizes rows ≤ whole
+sizes_within stored whole refs rows f forms = let few = few_sizes refs rows f.texts forms in let size = f.size in omega (arith, few, size)

@@ -1,8 +1,8 @@
 -- The texts of instances, written over the ranges in which their octets are kept.
-use Rattle.std.proofs.Common.{refl, ◌≡◌, ◌<◌, ◌≤◌, ◌+◌, ◌-◌, ℕ, List, [], ◌∷◌, ◌++◌, length, take, drop, sym, ◌∙◌, ap, subst, arith, append-nil, length-append}
-use Rattle.std.specs.Prelude.{IfSome, Option, Some, None}
+use Rattle.std.proofs.Common.{refl, ◌≡◌, ◌≤◌, ◌+◌, ◌-◌, ℕ, List, [], ◌∷◌, ◌++◌, length, take, drop, sym, ◌∙◌, ap, subst, arith, length-append}
+use Rattle.std.specs.Prelude.{Option, Some}
 use Rattle.std.proofs.Math.Seq.{drop-append-add, drop-append_seam, take-append_seam}
-use Rattle.std.proofs.lemmas.List.{drop-drop, drop-take, drop_all, length-drop, length-take-le, take-append-drop, take-take, take_all}
+use Rattle.std.proofs.lemmas.List.{drop-drop, drop-take, length-drop, length-take-le, take-append-drop, take-take, take_all}
 use Rattle.mdbox_base.specs.declared.entries.InstRow.{InstRow}
 use Rattle.mdbox_base.specs.declared.metadata.ExtRef.{ExtRef}
 use Rattle.mdbox_base.specs.declared.metadata.LineForm.{LineForm}
@@ -13,7 +13,7 @@ use Rattle.b64_lines.proofs.SizeLemmas.{longer_text}
 use Rattle.attach_join.specs.Behind.{octets_in}
 use Rattle.attach_join.specs.Kept.{FitInto, TextsFit, kept_in}
 use Rattle.attach_join.specs.Spread.{RangesAreFilled, outside, outside_from}
-use Rattle.attach_join.proofs.KeptLemmas.{AreForms, IsNextRange, RangesWithin, agree_behind, agree_less, agree_part, all_within, next_range, outside_on, text_longer}
+use Rattle.attach_join.proofs.KeptLemmas.{AreForms, RangesWithin, agree_behind, agree_less, agree_part, all_within, next_range, outside_on, text_longer}
 use Rattle.attach_join.proofs.OutsideLemmas.{filled}
 
 -- ---- the lines of one instance

@@ -1,4 +1,4 @@
-use Rattle.std.proofs.Common.{◌≡◌, ◌∙◌, arith}
+use Rattle.std.proofs.Common.{arith}
 use Rattle.attach_join.specs.Behind.{octets_in}
 use Rattle.attach_join.proofs.KeptLemmas.{whole_is_right, whole_texts}
 use Rattle.attach_join.proofs.keeping.fit_into.Goals as goal

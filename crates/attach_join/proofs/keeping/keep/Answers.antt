@@ -1,4 +1,4 @@
-use Rattle.std.proofs.Common.{refl, ◌≡◌, ◌≤◌, ◌+◌, ◌-◌, ◌∙◌, min, length, sym, ap, subst, arith}
+use Rattle.std.proofs.Common.{refl, ◌∙◌, arith}
 use Rattle.std.proofs.lemmas.List.{nil_from_length}
 use Rattle.attach_join.proofs.KeptLemmas.{keeping_begins, keeping_ends, keeping_goes_on, next_range, no_rows_left}
 use Rattle.attach_join.proofs.keeping.keep.Goals as goal

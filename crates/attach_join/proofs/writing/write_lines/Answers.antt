@@ -1,4 +1,4 @@
-use Rattle.std.proofs.Common.{refl, ◌≡◌, ◌≤◌, ◌+◌, ◌-◌, ◌∙◌, ℕ, take, length, sym, ap, subst, arith}
+use Rattle.std.proofs.Common.{refl, ◌∙◌, arith}
 use Rattle.attach_join.proofs.TextLemmas.{end_has_room, piece_has_room, writing_begins, writing_ends, writing_goes_on}
 use Rattle.attach_join.proofs.writing.write_lines.Goals as goal
 
@@ -23,8 +23,10 @@ loop-place-preserved c =
     }
 
 pub end-requires : goal.end-requires
-end-requires c = record { room = end_has_room c.args.form c.args.size c.args.range.now c.loop-place.range c.loop-place.place c.loop-place.writer c.requires.form c.requires.size c.requires.long c.loop-place.invariant.writing
-    (let test = c.loop-place-test.false in let long = c.loop-place.invariant.writing.long in omega (arith, test, long)) }
+end-requires c = record {
+  room = end_has_room c.args.form c.args.size c.args.range.now c.loop-place.range c.loop-place.place c.loop-place.writer c.requires.form c.requires.size c.requires.long c.loop-place.invariant.writing
+      (let test = c.loop-place-test.false in let long = c.loop-place.invariant.writing.long in omega (arith, test, long));
+}
 
 pub returns-clause-text : goal.returns-clause-text
 returns-clause-text c =

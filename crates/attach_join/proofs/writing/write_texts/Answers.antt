@@ -1,4 +1,4 @@
-use Rattle.std.proofs.Common.{◌≡◌, ◌≤◌, ◌∙◌, length, sym, ap, subst, arith}
+use Rattle.std.proofs.Common.{arith}
 use Rattle.std.proofs.lemmas.List.{nil_from_length}
 use Rattle.attach_join.proofs.KeptLemmas.{next_range, no_rows_left}
 use Rattle.attach_join.proofs.TextLemmas.{texts_begin, texts_end, texts_go_on}
