@@ -1,7 +1,7 @@
 -- What a crash may leave of a log to which entries are being added.
 use Rattle.std.specs.Prelude.{◌⊎◌}
 use Rattle.std.proofs.lemmas.List.{take-take, take-append-le}
-use Rattle.std.proofs.Common.{◌≡◌, inl, inr, ℕ, ◌+◌, ◌<◌, ◌≤◌, List, [], ◌∷◌, ◌++◌, length, take, Option, Some, true, All, refl, sym, ◌∙◌, subst, ap, append_assoc, append-nil, length-append, arith, lit<}
+use Rattle.std.proofs.Common.{◌≡◌, inl, inr, ℕ, ◌+◌, ◌*◌, ◌<◌, ◌≤◌, ◌^◌, List, [], ◌∷◌, ◌++◌, length, take, sum, Option, Some, true, All, refl, sym, ◌∙◌, subst, ap, append_assoc, append-nil, length-append, arith, lit<}
 use Rattle.std.proofs.Math.Seq.{take-append_seam}
 use Rattle.std.proofs.lemmas.Bool.{cases_eq}
 use Rattle.std.proofs.lemmas.List.Elements.{All-cons, All-append, All-take}
@@ -13,9 +13,10 @@ use Rattle.disk_model.proofs.FirmLemmas.{IsFirm, firm_from_keeps, keeps_from_fir
 use Rattle.model_logs.specs.declared.log_head.LogHead.{LogHead}
 use Rattle.model_logs.specs.LogFile.{HeadFits, head_octets, record_octets, EntryFits, opened, log_front, IsLog}
 use Rattle.gate_log.specs.State.{LogState}
-use Rattle.gate_log.specs.Log.{log_text, IsLogRead, Reads, Holds, IsLogWithOrWithoutAll}
+use Rattle.gate_log.specs.Log.{log_text, IsLogRead, Reads, Holds, cut_by, IsLogWithOrWithoutAll}
+use Rattle.gate_log.proofs.LayoutLemmas.{cut-fit, block_octets}
 
-abbrev AreOctets : List ℕ → Type 0
+abbrev pub AreOctets : List ℕ → Type 0
 AreOctets text = All (λ octet. octet < 256) text
 
 -- what is known of the entries, and of the octets that are written for them
@@ -34,10 +35,10 @@ front_all head es ms = ap (λ (t : List ℕ). head_octets head ++ t) (opened_all
 
 -- the octets in steps
 
-old_front : (head : LogHead) (entries : List (List ℕ)) (rest : List ℕ) → log_text head entries ++ rest ≡ log_front head entries ++ 0 ∷ rest
+pub old_front : (head : LogHead) (entries : List (List ℕ)) (rest : List ℕ) → log_text head entries ++ rest ≡ log_front head entries ++ 0 ∷ rest
 old_front head entries rest = append_assoc (log_front head entries) (0 ∷ []) rest
 
-new_text : (head : LogHead) (entries more : List (List ℕ)) (block : List ℕ) → IsLaidOut more block → log_front head entries ++ 1 ∷ block ≡ log_text head (entries ++ more)
+pub new_text : (head : LogHead) (entries more : List (List ℕ)) (block : List ℕ) → IsLaidOut more block → log_front head entries ++ 1 ∷ block ≡ log_text head (entries ++ more)
 new_text head entries more block b =
     ap (λ (t : List ℕ). log_front head entries ++ t) b.is
     ∙ sym (append_assoc (log_front head entries) (opened more) (0 ∷ []))
@@ -66,18 +67,20 @@ either_log head entries more block gate hf ef b = elim (cases_eq gate 1) [
 
 pub record Before (log : LogState) (entries : List (List ℕ)) (f : FileState) : Type 0 where
   pub end : log.end ≡ length (log_front log.head entries)
+  pub count : log.count ≡ length entries
   pub head_fits : HeadFits log.head
   pub entries_fit : All EntryFits entries
   pub keeps : Keeps f (log_text log.head entries)
 
 pub record Between (log : LogState) (entries : List (List ℕ)) (block : List ℕ) (f : FileState) : Type 0 where
   pub end : log.end ≡ length (log_front log.head entries)
+  pub count : log.count ≡ length entries
   pub head_fits : HeadFits log.head
   pub entries_fit : All EntryFits entries
   pub keeps : Keeps f (log_front log.head entries ++ 0 ∷ block)
 
 held-before : (log : LogState) (entries : List (List ℕ)) (old : Option History) → Holds log entries old → IfTold old (λ disk. Before log entries (disk log.name))
-held-before log entries old h = if_told-map _ _ old (λ disk k. record { end = k.reads.end; head_fits = k.reads.head_fits; entries_fit = k.reads.entries_fit; keeps = k.keeps }) h
+held-before log entries old h = if_told-map _ _ old (λ disk k. record { end = k.reads.end; count = k.reads.count; head_fits = k.reads.head_fits; entries_fit = k.reads.entries_fit; keeps = k.keeps }) h
 
 abbrev P : LogHead → List (List ℕ) → List (List ℕ) → Option (List ℕ) → Type 0
 P head entries more octets = IsLogWithOrWithoutAll head entries more octets
@@ -91,11 +94,15 @@ old_left head entries more left hf ef r = subst (P head entries more) (sym r.1) 
 either_left : (head : LogHead) (entries more : List (List ℕ)) (block : List ℕ) (left : Option (List ℕ)) → HeadFits head → All EntryFits entries → IsLaidOut more block → (z : ℕ) × (left ≡ Some (log_front head entries ++ z ∷ block)) → P head entries more left
 either_left head entries more block left hf ef b r = subst (P head entries more) (sym r.1) (either_log head entries more block r.0 hf ef b)
 
+-- the records stand behind the closed gate, and all are octets
+pub closed_octets : (head : LogHead) (entries more : List (List ℕ)) (block : List ℕ) → IsLaidOut more block → AreOctets (log_text head entries) → AreOctets (log_front head entries ++ 0 ∷ block)
+closed_octets head entries more block b are = subst AreOctets (old_front head entries block) (All-append (λ o. o < 256) (log_text head entries) block are b.are_octets)
+
 first_firm : (head : LogHead) (entries more : List (List ℕ)) (block : List ℕ) (f : FileState) → IsLaidOut more block → IsFirm f (log_text head entries) → IsFirm (synced (written (length (log_text head entries)) block f)) (log_front head entries ++ 0 ∷ block)
 first_firm head entries more block f b k =
     synced_firm (written (length (log_text head entries)) block f) (log_front head entries ++ 0 ∷ block) k.there k.name
     (end_octets f (log_text head entries) block k.octets ∙ old_front head entries block)
-    (subst AreOctets (old_front head entries block) (All-append (λ o. o < 256) (log_text head entries) block k.are_octets b.are_octets))
+    (closed_octets head entries more block b k.are_octets)
 
 first_can : (log : LogState) (entries more : List (List ℕ)) (block : List ℕ) (f : FileState) → IsLaidOut more block → Before log entries f
     → Can log.name (written (log.end + 1) block) (half_written (log.end + 1) (length block)) (P log.head entries more) f
@@ -116,20 +123,24 @@ first_state log entries more block f b s =
     let at : length (log_text log.head entries) ≡ log.end + 1 = text_length log.head entries ∙ ap (λ (n : ℕ). n + 1) (sym s.end) in
     record {
       end = s.end;
+      count = s.count;
       head_fits = s.head_fits;
       entries_fit = s.entries_fit;
       keeps = subst (λ (n : ℕ). Keeps (synced (written n block f)) (log_front log.head entries ++ 0 ∷ block)) at (keeps_from_firm _ _ (first_firm log.head entries more block f b k));
     }
+
+-- the gate opens, and all are octets
+pub open_octets : (head : LogHead) (entries more : List (List ℕ)) (block : List ℕ) → IsLaidOut more block → AreOctets (log_front head entries ++ 0 ∷ block) → AreOctets (log_front head entries ++ 1 ∷ block)
+open_octets head entries more block b are =
+    All-append (λ o. o < 256) (log_front head entries) (1 ∷ block) (subst AreOctets (take-append_seam (log_front head entries) (0 ∷ block)) (All-take (λ o. o < 256) (length (log_front head entries)) (log_front head entries ++ 0 ∷ block) are))
+    (All-cons (λ o. o < 256) 1 block (lit< tt) b.are_octets)
 
 second_firm : (head : LogHead) (entries more : List (List ℕ)) (block : List ℕ) (f : FileState) → IsLaidOut more block → IsFirm f (log_front head entries ++ 0 ∷ block)
     → IsFirm (synced (written (length (log_front head entries)) (1 ∷ []) f)) (log_front head entries ++ 1 ∷ block)
 second_firm head entries more block f b k =
     synced_firm (written (length (log_front head entries)) (1 ∷ []) f) (log_front head entries ++ 1 ∷ block) k.there k.name
     (one_octets f (log_front head entries) block 0 1 k.octets)
-    (All-append (λ o. o < 256) (log_front head entries) (1 ∷ block) (front_octets (log_front head entries) (0 ∷ block) k.are_octets) (All-cons (λ o. o < 256) 1 block (lit< tt) b.are_octets))
-  where
-    front_octets : (a c : List ℕ) → AreOctets (a ++ c) → AreOctets a
-    front_octets a c are = subst AreOctets (take-append_seam a c) (All-take (λ o. o < 256) (length a) (a ++ c) are)
+    (open_octets head entries more block b k.are_octets)
 
 second_can : (log : LogState) (entries more : List (List ℕ)) (block : List ℕ) (f : FileState) → IsLaidOut more block → Between log entries block f
     → Can log.name (written log.end (1 ∷ [])) (half_written log.end 1) (P log.head entries more) f
@@ -205,9 +216,14 @@ goes_well log entries more block old h1 h2 h3 new b h is1 is2 is3 is4 =
 
 -- after Ok
 
--- the log with so many octets more
-abbrev pub grown : LogState → ℕ → LogState
-grown log size = record log { end = log.end + size }
+-- the log with so many octets and entries more
+abbrev pub grown : LogState → ℕ → ℕ → LogState
+grown log size count = record log { end = log.end + size; count = log.count + count }
+
+-- they are as many as are laid out
+pub record IsGrowth (more : List (List ℕ)) (block : List ℕ) (size count : ℕ) : Type 0 where
+  pub size_is : size ≡ length block
+  pub count_is : count ≡ length more
 
 grown_end : (log : LogState) (entries more : List (List ℕ)) (block : List ℕ) → IsLaidOut more block → log.end ≡ length (log_front log.head entries) → log.end + length block ≡ length (log_front log.head (entries ++ more))
 grown_end log entries more block b e =
@@ -215,68 +231,76 @@ grown_end log entries more block b e =
     let s : length (1 ∷ block) ≡ length (opened more) + 1 = ap length b.is ∙ length-append (opened more) (0 ∷ []) in
     omega (arith, l, s, e)
 
-grown_read : (log : LogState) (entries more : List (List ℕ)) (block : List ℕ) → IsLaidOut more block → (size : ℕ) → size ≡ length block → (disk : DiskState) → log.end ≡ length (log_front log.head entries) → HeadFits log.head
-    → All EntryFits entries → reading (disk log.name) ≡ Some (log_text log.head (entries ++ more)) → IsLogRead (grown log size) (entries ++ more) disk
-grown_read log entries more block b size long disk e hf ef r = record {
+pub grown_read : (log : LogState) (entries more : List (List ℕ)) (block : List ℕ) → IsLaidOut more block → (size count : ℕ) → IsGrowth more block size count → (disk : DiskState) → log.end ≡ length (log_front log.head entries) → log.count ≡ length entries → HeadFits log.head
+    → All EntryFits entries → reading (disk log.name) ≡ Some (log_text log.head (entries ++ more)) → IsLogRead (grown log size count) (entries ++ more) disk
+grown_read log entries more block b size count growth disk e is_count hf ef r = record {
   file = r;
-  end = ap (λ (n : ℕ). log.end + n) long ∙ grown_end log entries more block b e;
+  end = ap (λ (n : ℕ). log.end + n) growth.size_is ∙ grown_end log entries more block b e;
+  count = omega (arith, is_count, growth.count_is, length-append entries more);
   head_fits = hf;
   entries_fit = All-append EntryFits entries more ef b.fit;
 }
 
 pub record Held (log : LogState) (entries more : List (List ℕ)) (f : FileState) : Type 0 where
   pub end : log.end ≡ length (log_front log.head entries)
+  pub count : log.count ≡ length entries
   pub head_fits : HeadFits log.head
   pub entries_fit : All EntryFits entries
   pub keeps : Keeps f (log_text log.head (entries ++ more))
 
-pub holds_then : (log : LogState) (entries more : List (List ℕ)) (block : List ℕ) (old h1 h2 h3 new : Option History) → IsLaidOut more block → (size : ℕ) → size ≡ length block → Holds log entries old
+pub holds_then : (log : LogState) (entries more : List (List ℕ)) (block : List ℕ) (old h1 h2 h3 new : Option History) → IsLaidOut more block → (size count : ℕ) → IsGrowth more block size count → Holds log entries old
     → h1 ≡ after (change log.name (written (log.end + 1) block)) old → h2 ≡ after (change log.name synced) h1
-    → h3 ≡ after (change log.name (written log.end (1 ∷ []))) h2 → new ≡ after (change log.name synced) h3 → Holds (grown log size) (entries ++ more) new
-holds_then log entries more block old h1 h2 h3 new b size long h is1 is2 is3 is4 =
+    → h3 ≡ after (change log.name (written log.end (1 ∷ []))) h2 → new ≡ after (change log.name synced) h3 → Holds (grown log size count) (entries ++ more) new
+holds_then log entries more block old h1 h2 h3 new b size count growth h is1 is2 is3 is4 =
     let k : IfTold new (λ disk. Held log entries more (disk log.name)) =
     state log.name (Between log entries block) (Held log entries more) (written log.end (1 ∷ [])) h2 h3 new is3 is4
-    (λ f s. record { end = s.end; head_fits = s.head_fits; entries_fit = s.entries_fit; keeps = second_state log entries more block f b s })
+    (λ f s. record { end = s.end; count = s.count; head_fits = s.head_fits; entries_fit = s.entries_fit; keeps = second_state log entries more block f b s })
     (mid-state log entries more block old h1 h2 b h is1 is2) in
-    if_told-map _ _ new (λ disk s. record { reads = grown_read log entries more block b size long disk s.end s.head_fits s.entries_fit s.keeps.reads; keeps = s.keeps }) k
+    if_told-map _ _ new (λ disk s. record { reads = grown_read log entries more block b size count growth disk s.end s.count s.head_fits s.entries_fit s.keeps.reads; keeps = s.keeps }) k
 
 -- the same where the disk reads the log
 
 pub record Read (log : LogState) (entries : List (List ℕ)) (octets : List ℕ) (f : FileState) : Type 0 where
   pub end : log.end ≡ length (log_front log.head entries)
+  pub count : log.count ≡ length entries
   pub head_fits : HeadFits log.head
   pub entries_fit : All EntryFits entries
   pub there : f.is_there ≡ true
   pub octets_are : f.octets ≡ octets
 
-read-before : (log : LogState) (entries : List (List ℕ)) (old : Option History) → Reads log entries old → IfTold old (λ disk. Read log entries (log_text log.head entries) (disk log.name))
-read-before log entries old h = if_told-map _ _ old (λ disk r.
+pub read_file : (log : LogState) (entries : List (List ℕ)) (disk : DiskState) → IsLogRead log entries disk → Read log entries (log_text log.head entries) (disk log.name)
+read_file log entries disk r =
     let t = reads_there (disk log.name) (log_text log.head entries) r.file in
-    record { end = r.end; head_fits = r.head_fits; entries_fit = r.entries_fit; there = t.0; octets_are = t.1 }) h
+    record { end = r.end; count = r.count; head_fits = r.head_fits; entries_fit = r.entries_fit; there = t.0; octets_are = t.1 }
 
-first_read : (log : LogState) (entries more : List (List ℕ)) (block : List ℕ) (f : FileState) → Read log entries (log_text log.head entries) f → Read log entries (log_front log.head entries ++ 0 ∷ block) (written (log.end + 1) block f)
+read-before : (log : LogState) (entries : List (List ℕ)) (old : Option History) → Reads log entries old → IfTold old (λ disk. Read log entries (log_text log.head entries) (disk log.name))
+read-before log entries old h = if_told-map _ _ old (λ disk r. read_file log entries disk r) h
+
+pub first_read : (log : LogState) (entries more : List (List ℕ)) (block : List ℕ) (f : FileState) → Read log entries (log_text log.head entries) f → Read log entries (log_front log.head entries ++ 0 ∷ block) (written (log.end + 1) block f)
 first_read log entries more block f r =
     let at : length (log_text log.head entries) ≡ log.end + 1 = text_length log.head entries ∙ ap (λ (n : ℕ). n + 1) (sym r.end) in
     record {
       end = r.end;
+      count = r.count;
       head_fits = r.head_fits;
       entries_fit = r.entries_fit;
       there = r.there;
       octets_are = ap (λ (n : ℕ). (written n block f).octets) (sym at) ∙ end_octets f (log_text log.head entries) block r.octets_are ∙ old_front log.head entries block;
     }
 
-second_read : (log : LogState) (entries more : List (List ℕ)) (block : List ℕ) (f : FileState) → IsLaidOut more block → Read log entries (log_front log.head entries ++ 0 ∷ block) f → Read log entries (log_text log.head (entries ++ more)) (written log.end (1 ∷ []) f)
+pub second_read : (log : LogState) (entries more : List (List ℕ)) (block : List ℕ) (f : FileState) → IsLaidOut more block → Read log entries (log_front log.head entries ++ 0 ∷ block) f → Read log entries (log_text log.head (entries ++ more)) (written log.end (1 ∷ []) f)
 second_read log entries more block f b r =
     record {
       end = r.end;
+      count = r.count;
       head_fits = r.head_fits;
       entries_fit = r.entries_fit;
       there = r.there;
       octets_are = ap (λ (n : ℕ). (written n (1 ∷ []) f).octets) r.end ∙ one_octets f (log_front log.head entries) block 0 1 r.octets_are ∙ new_text log.head entries more block b;
     }
 
-synced_read : (log : LogState) (entries : List (List ℕ)) (octets : List ℕ) (f : FileState) → Read log entries octets f → Read log entries octets (synced f)
-synced_read log entries octets f r = record { end = r.end; head_fits = r.head_fits; entries_fit = r.entries_fit; there = r.there; octets_are = r.octets_are }
+pub synced_read : (log : LogState) (entries : List (List ℕ)) (octets : List ℕ) (f : FileState) → Read log entries octets f → Read log entries octets (synced f)
+synced_read log entries octets f r = record { end = r.end; count = r.count; head_fits = r.head_fits; entries_fit = r.entries_fit; there = r.there; octets_are = r.octets_are }
 
 pub read_1 : (log : LogState) (entries more : List (List ℕ)) (block : List ℕ) (old h1 : Option History) → Reads log entries old
     → h1 ≡ after (change log.name (written (log.end + 1) block)) old → IfTold h1 (λ disk. Read log entries (log_front log.head entries ++ 0 ∷ block) (disk log.name))
@@ -294,14 +318,14 @@ pub read_3 : (log : LogState) (entries more : List (List ℕ)) (block : List ℕ
 read_3 log entries more block old h1 h2 h3 b h is1 is2 is3 =
     changed_state log.name (Read log entries (log_front log.head entries ++ 0 ∷ block)) (Read log entries (log_text log.head (entries ++ more))) (written log.end (1 ∷ [])) h2 h3 is3 (λ f r. second_read log entries more block f b r) (read_2 log entries more block old h1 h2 h is1 is2)
 
-pub reads_then : (log : LogState) (entries more : List (List ℕ)) (block : List ℕ) (old h1 h2 h3 new : Option History) → IsLaidOut more block → (size : ℕ) → size ≡ length block → Reads log entries old
+pub reads_then : (log : LogState) (entries more : List (List ℕ)) (block : List ℕ) (old h1 h2 h3 new : Option History) → IsLaidOut more block → (size count : ℕ) → IsGrowth more block size count → Reads log entries old
     → h1 ≡ after (change log.name (written (log.end + 1) block)) old → h2 ≡ after (change log.name synced) h1
-    → h3 ≡ after (change log.name (written log.end (1 ∷ []))) h2 → new ≡ after (change log.name synced) h3 → Reads (grown log size) (entries ++ more) new
-reads_then log entries more block old h1 h2 h3 new b size long h is1 is2 is3 is4 =
+    → h3 ≡ after (change log.name (written log.end (1 ∷ []))) h2 → new ≡ after (change log.name synced) h3 → Reads (grown log size count) (entries ++ more) new
+reads_then log entries more block old h1 h2 h3 new b size count growth h is1 is2 is3 is4 =
     let k : IfTold new (λ disk. Read log entries (log_text log.head (entries ++ more)) (disk log.name)) =
     changed_state log.name (Read log entries (log_text log.head (entries ++ more))) (Read log entries (log_text log.head (entries ++ more))) synced h3 new is4
     (λ f r. synced_read log entries (log_text log.head (entries ++ more)) f r) (read_3 log entries more block old h1 h2 h3 b h is1 is2 is3) in
-    if_told-map _ _ new (λ disk r. grown_read log entries more block b size long disk r.end r.head_fits r.entries_fit (reading_from_there (disk log.name) r.there ∙ ap Some r.octets_are)) k
+    if_told-map _ _ new (λ disk r. grown_read log entries more block b size count growth disk r.end r.count r.head_fits r.entries_fit (reading_from_there (disk log.name) r.there ∙ ap Some r.octets_are)) k
 
 -- what the calls ask
 
@@ -314,6 +338,19 @@ ask_2 log entries octets h r = if_told-map _ _ h (λ disk s. s.there) r
 pub ask_3 : (log : LogState) (entries : List (List ℕ)) (block : List ℕ) (h : Option History) → IfTold h (λ disk. Read log entries (log_front log.head entries ++ 0 ∷ block) (disk log.name)) → IfTold h (λ disk. Reaches (disk log.name) log.end)
 ask_3 log entries block h r = if_told-map _ _ h (λ disk s. (s.there, let l : length (disk log.name).octets ≡ length (log_front log.head entries ++ 0 ∷ block) = ap length s.octets_are in let e : log.end ≡ length (log_front log.head entries) = s.end in omega (arith, l, e, length-append (log_front log.head entries) (0 ∷ block)))) r
 
--- the octets that are written, as the front of the buffer
+-- the front of a buffer, where that is seen
 pub block_is : (n room : ℕ) (view laid tail : List ℕ) → view ≡ take room (laid ++ tail) → n ≤ room → n ≤ length laid → take n view ≡ take n laid
 block_is n room view laid tail e a b = ap (take n) e ∙ take-take n room (laid ++ tail) a ∙ take-append-le n laid tail b
+
+-- the octets that are written for entries, as the front of what is seen of the buffer
+pub laid_out : (lengths octets view laid tail : List ℕ) (size room : ℕ) → All (λ n. 1 ≤ n) lengths → sum lengths ≡ length octets → AreOctets octets
+    → size ≡ length octets + 5 * length lengths → size ≤ room → room < 2 ^ 32 → length laid ≡ room → view ≡ take room (laid ++ tail) → 1 ∷ take size laid ≡ opened (cut_by lengths octets) ++ 0 ∷ []
+    → IsLaidOut (cut_by lengths octets) (take size view)
+laid_out lengths octets view laid tail size room some whole are is_size fits short long is_view is_laid =
+    let front : take size view ≡ take size laid = block_is size room view laid tail is_view fits (omega (arith, long, fits)) in
+    let is : 1 ∷ take size view ≡ opened (cut_by lengths octets) ++ 0 ∷ [] = ap (λ (t : List ℕ). 1 ∷ t) front ∙ is_laid in
+    record {
+      fit = cut-fit lengths octets some whole (omega (arith, is_size, fits, short));
+      is = is;
+      are_octets = block_octets lengths octets _ are is;
+    }

@@ -1,5 +1,5 @@
 -- Records laid out one behind another.
-use Rattle.std.proofs.Common.{◌≡◌, ◌+◌, ◌-◌, ◌*◌, ◌<◌, ◌≤◌, ◌^◌, ℕ, List, [], ◌∷◌, ◌++◌, length, take, drop, get_or, sum, All, refl, sym, ◌∙◌, ap, subst, append_assoc, append-nil, length-append, length-drop, drop-cons, add-one, arith, lit<}
+use Rattle.std.proofs.Common.{◌≡◌, ◌+◌, ◌-◌, ◌*◌, ◌<◌, ◌≤◌, ◌^◌, ℕ, suc, List, [], ◌∷◌, ◌++◌, length, take, drop, get_or, sum, All, refl, sym, ◌∙◌, ap, subst, append_assoc, append-nil, length-append, length-drop, drop-cons, add-one, arith, lit<}
 use Rattle.std.specs.Int.{w32, to_be_bytes}
 use Rattle.std.proofs.Math.ListN.{set}
 use Rattle.std.proofs.Math.Seq.{take-add, take-append_seam, drop-append_seam}
@@ -99,6 +99,11 @@ laid-all lengths octets rest buffer i last s l within =
     ap (λ (t : List ℕ). 1 ∷ t) (take_more_set buffer last 0 within)
     ∙ ap (λ (t : List ℕ). t ++ 0 ∷ []) (front_same (1 ∷ take last buffer) (opened s.done) (get_or buffer last 0) 1 front)
     ∙ ap (λ (t : List (List ℕ)). opened t ++ 0 ∷ []) (sym all)
+
+-- as many entries as lengths
+pub cut_count : (lengths octets : List ℕ) → length (cut_by lengths octets) ≡ length lengths
+cut_count [] octets = refl
+cut_count (n ∷ ns) octets = ap (λ (k : ℕ). suc k) (cut_count ns (drop n octets))
 
 -- the entries fit records
 pub cut-fit : (lengths octets : List ℕ) → All (λ n. 1 ≤ n) lengths → sum lengths ≡ length octets → length octets < 2 ^ 32 → All EntryFits (cut_by lengths octets)

@@ -1,4 +1,5 @@
 pub mod AppendLemmas
+pub mod DraftLemmas
 pub mod EntryReadLemmas
 pub mod FilePartLemmas
 pub mod HeadLemmas

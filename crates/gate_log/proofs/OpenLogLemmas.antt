@@ -64,16 +64,16 @@ kept-mid name head entries octets kept end gate old mid l e g idle r k =
 
 -- what is found of it
 
-pub found-mid : (found : InspectedLog) (entries : List (List ℕ)) (octets : List ℕ) (old mid : Option History) (l : IsLog octets found.head entries) → found.end ≡ log_end entries → found.gate ≡ l.gate → found.behind ≡ length l.behind → IsIdle old mid
+pub found-mid : (found : InspectedLog) (entries : List (List ℕ)) (octets : List ℕ) (old mid : Option History) (l : IsLog octets found.head entries) → found.end ≡ log_end entries → found.count ≡ length entries → found.gate ≡ l.gate → found.behind ≡ length l.behind → IsIdle old mid
     → IfTold old (λ now. reading (now found.name) ≡ Some octets) → IfTold mid (IsFound found entries)
-found-mid found entries octets old mid l e g b idle r =
-    if_told-map _ _ mid (λ disk s. record { rest = l.behind; behind = b; stands = s })
+found-mid found entries octets old mid l e n g b idle r =
+    if_told-map _ _ mid (λ disk s. record { count = n; rest = l.behind; behind = b; stands = s })
     (stands-mid found.name found.head entries octets found.end found.gate old mid l e g idle r)
 
-pub found_kept-mid : (found : InspectedLog) (entries : List (List ℕ)) (octets kept : List ℕ) (old mid : Option History) (l : IsLog octets found.head entries) → found.end ≡ log_end entries → found.gate ≡ l.gate → found.behind ≡ length l.behind → IsIdle old mid
+pub found_kept-mid : (found : InspectedLog) (entries : List (List ℕ)) (octets kept : List ℕ) (old mid : Option History) (l : IsLog octets found.head entries) → found.end ≡ log_end entries → found.count ≡ length entries → found.gate ≡ l.gate → found.behind ≡ length l.behind → IsIdle old mid
     → IfTold old (λ now. reading (now found.name) ≡ Some octets) → IfTold old (λ now. Keeps (now found.name) kept) → IfTold mid (IsFoundKept found entries)
-found_kept-mid found entries octets kept old mid l e g b idle r k =
-    if_told-map _ _ mid (λ disk s. record { rest = l.behind; behind = b; kept = s })
+found_kept-mid found entries octets kept old mid l e n g b idle r k =
+    if_told-map _ _ mid (λ disk s. record { count = n; rest = l.behind; behind = b; kept = s })
     (kept-mid found.name found.head entries octets kept found.end found.gate old mid l e g idle r k)
 
 -- what each image has

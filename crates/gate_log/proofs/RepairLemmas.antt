@@ -31,7 +31,7 @@ kept_rest_of found entries None h = record { rest = replicate found.behind 0; be
 kept_rest_of found entries (Some old) h = record { rest = h.rest; behind = h.behind; kept = h.kept }
 
 found-kept : (found : InspectedLog) (entries : List (List ℕ)) (old : Option History) → IfTold old (IsFoundKept found entries) → IfTold old (IsFound found entries)
-found-kept found entries old h = if_told-map _ _ old (λ disk k. record { rest = k.rest; behind = k.behind; stands = k.kept.stands }) h
+found-kept found entries old h = if_told-map _ _ old (λ disk k. record { count = k.count; rest = k.rest; behind = k.behind; stands = k.kept.stands }) h
 
 -- what the calls ask and promise, of the fields and of what callers see
 
@@ -55,16 +55,16 @@ repairing-others_stay seen found old new is each = subst (λ (f : InspectedLog).
 -- after Ok
 
 abbrev at_rest : InspectedLog → LogState
-at_rest found = record { name = found.name; head = found.head; end = found.end; room = 0 }
+at_rest found = record { name = found.name; head = found.head; end = found.end; count = found.count; room = 0 }
 
-framed : (found : InspectedLog) (entries : List (List ℕ)) (old : Option History) → IfTold old (IsFound found entries) → IfTold old (λ _. Frame found.head entries found.end)
-framed found entries old h = if_told-map _ _ old (λ disk f. record { end_is = f.stands.end_is; head_fits = f.stands.head_fits; entries_fit = f.stands.entries_fit }) h
+framed : (found : InspectedLog) (entries : List (List ℕ)) (old : Option History) → IfTold old (IsFound found entries) → IfTold old (λ _. Frame found.head entries found.end × (found.count ≡ length entries))
+framed found entries old h = if_told-map _ _ old (λ disk f. (record { end_is = f.stands.end_is; head_fits = f.stands.head_fits; entries_fit = f.stands.entries_fit }, f.count)) h
 
 repaired : (found : InspectedLog) (entries : List (List ℕ)) (old new : Option History) → SameButFor found.name old new → IfTold old (IsFound found entries)
     → IfTold new (λ now. reading (now found.name) ≡ Some (log_text found.head entries)) → Reads (at_rest found) entries new
 repaired found entries old new same h r =
-    if_told-both _ _ _ new (λ disk f s. record { file = s; end = f.end_is; head_fits = f.head_fits; entries_fit = f.entries_fit })
-    (carried (Frame found.head entries found.end) found.name old new same (framed found entries old h)) r
+    if_told-both _ _ _ new (λ disk f s. record { file = s; end = f.0.end_is; count = f.1; head_fits = f.0.head_fits; entries_fit = f.0.entries_fit })
+    (carried (Frame found.head entries found.end × (found.count ≡ length entries)) found.name old new same (framed found entries old h)) r
 
 pub repaired-reads : (seen found : InspectedLog) (log : LogState) (entries : List (List ℕ)) (old new : Option History) → seen ≡ found → log ≡ at_rest seen → SameButFor seen.name old new
     → ((head : LogHead) (entries : List (List ℕ)) (rest : List ℕ) → seen.behind ≡ length rest → IfTold old (IsStanding seen.name head entries seen.end seen.gate rest) → IfTold new (λ now. reading (now seen.name) ≡ Some (log_text head entries)))

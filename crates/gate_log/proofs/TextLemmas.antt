@@ -1,16 +1,16 @@
 -- Going over the entries of a log where they stand.
-use Rattle.std.proofs.Common.{◌≡◌, ℕ, ◌+◌, List, [], ◌∷◌, ◌++◌, length, drop, get_or, refl, sym, ◌∙◌, ap, subst, append_assoc, append-nil, arith}
+use Rattle.std.proofs.Common.{◌≡◌, ℕ, ◌+◌, ◌≤◌, List, [], ◌∷◌, ◌++◌, length, drop, get_or, refl, sym, ◌∙◌, ap, subst, append_assoc, append-nil, length-append, arith}
 use Rattle.std.proofs.lemmas.List.{drop-drop}
 use Rattle.std.proofs.lemmas.List.Elements.{All-head, All-tail}
 use Rattle.model_logs.specs.declared.log_head.LogHead.{LogHead}
-use Rattle.model_logs.specs.LogFile.{HeadFits, head_octets, record_octets, EntryFits, opened, log_end, record_places, IsLog, BeginsRecord}
+use Rattle.model_logs.specs.LogFile.{HeadFits, head_octets, record_octets, EntryFits, opened, end_from, log_end, record_places, IsLog, BeginsRecord}
 use Rattle.model_logs.proofs.LogFileLemmas.{record_same, stops-ends, head_length, behind_front, one_log}
 use Rattle.gate_log.specs.Text.{IsLogText, HasEntriesAt}
 use Rattle.gate_log.specs.Reading.{IsReading}
 use Rattle.gate_log.specs.declared.read.LogRead.{LogRead}
 use Rattle.gate_log.specs.declared.text.LogText.{LogText}
 use Rattle.gate_log.proofs.OpenLogLemmas.{read-log}
-use Rattle.gate_log.proofs.EntryReadLemmas.{Passed, passed-more}
+use Rattle.gate_log.proofs.EntryReadLemmas.{Passed, passed-more, passed-end}
 
 -- the first gate of a log
 pub first-entries : (text : LogText) (entries : List (List ℕ)) → IsLogText text entries → HasEntriesAt text.octets 25 entries
@@ -75,16 +75,26 @@ one-next octets gate (x ∷ es) value behind h e one b =
       },
     )
 
--- so far there are some entries, and a gate is next
-pub record Walked (octets : List ℕ) (head : LogHead) (gate : ℕ) : Type 0 where
+-- there are no more entries than octets
+pub few_entries : (gate : ℕ) (entries : List (List ℕ)) → length entries + gate ≤ end_from gate entries
+few_entries gate [] = omega arith
+few_entries gate (x ∷ es) = omega (arith, few_entries (gate + 5 + length x) es)
+
+-- so far there are so many entries, and a gate is next
+pub record Walked (octets : List ℕ) (head : LogHead) (gate count : ℕ) : Type 0 where
   pub entries : List (List ℕ)
+  pub counted : count ≡ length entries
   pub passed : Passed octets head entries (record_places entries) gate
 
-pub walked-more : (octets : List ℕ) (head : LogHead) (gate : ℕ) → HeadFits head → (w : Walked octets head gate) → get_or octets gate 0 ≡ 1 → (b : BeginsRecord (drop (gate + 1) octets)) → Walked octets head (gate + (length b.entry + 5))
-walked-more octets head gate f w opens b =
+pub walked-few : (octets : List ℕ) (head : LogHead) (gate count : ℕ) → HeadFits head → Walked octets head gate count → count ≤ gate
+walked-few octets head gate count f w = omega (arith, w.counted, passed-end octets head w.entries (record_places w.entries) gate f w.passed, few_entries 25 w.entries)
+
+pub walked-more : (octets : List ℕ) (head : LogHead) (gate count : ℕ) → HeadFits head → (w : Walked octets head gate count) → get_or octets gate 0 ≡ 1 → (b : BeginsRecord (drop (gate + 1) octets)) → Walked octets head (gate + (length b.entry + 5)) (count + 1)
+walked-more octets head gate count f w opens b =
     let p = passed-more octets head w.entries (record_places w.entries) gate f w.passed opens b in
     record {
       entries = w.entries ++ b.entry ∷ [];
+      counted = omega (arith, w.counted, length-append w.entries (b.entry ∷ []));
       passed = subst (λ (places : List ℕ). Passed octets head (w.entries ++ b.entry ∷ []) places (gate + (length b.entry + 5))) p.are_places p;
     }
 
@@ -92,4 +102,9 @@ walked-more octets head gate f w opens b =
 pub text-read : (text : LogText) (octets : List ℕ) (head : LogHead) (read : LogRead) → ((entries : List (List ℕ)) × IsLogText text entries) → text.head ≡ head → octets ≡ text.octets → IsReading octets read × (read.head ≡ head) → IsLogText text read.entries
 text-read text octets head read t h e r =
     let l : IsLog text.octets text.head read.entries = subst (λ (o : LogHead). IsLog text.octets o read.entries) (sym h) (read-log octets text.octets head read r e) in
-    record { log = l; end = t.1.end ∙ ap log_end (one_log text.octets text.head text.head t.0 read.entries t.1.log l).1 }
+    let same : t.0 ≡ read.entries = (one_log text.octets text.head text.head t.0 read.entries t.1.log l).1 in
+    record { log = l; end = t.1.end ∙ ap log_end same; count = t.1.count ∙ ap length same }
+
+-- the last gate stands at a place that is greater than the number of entries
+pub text-few : (text : LogText) → (entries : List (List ℕ)) × IsLogText text entries → text.count ≤ text.end
+text-few text t = omega (arith, t.1.end, t.1.count, few_entries 25 t.0)

@@ -1,5 +1,5 @@
 -- Logs on a disk.
-use Rattle.std.specs.Prelude.{◌≡◌, ◌≢◌, ◌⊎◌, ◌≤◌, ℕ, List, [], ◌∷◌, ◌++◌, length, take, drop, max, All, Option, Some, None, IfSome}
+use Rattle.std.specs.Prelude.{◌≡◌, ◌≢◌, ◌⊎◌, ◌<◌, ◌≤◌, ℕ, false, List, [], ◌∷◌, ◌++◌, length, take, drop, max, All, Option, Some, None, IfSome}
 use Rattle.disk_model.specs.Disk.{FileState, DiskState, History, IfTold, Keeps, named, reading}
 use Rattle.disk_model.specs.declared.name.FileName.{FileName}
 use Rattle.model_logs.specs.declared.log_head.LogHead.{LogHead}
@@ -14,6 +14,7 @@ log_text head entries = log_front head entries ++ 0 ∷ []
 pub record IsLogRead (log : LogState) (entries : List (List ℕ)) (disk : DiskState) : Type 0 where
   pub file : reading (disk log.name) ≡ Some (log_text log.head entries)
   pub end : log.end ≡ length (log_front log.head entries)
+  pub count : log.count ≡ length entries
   pub head_fits : HeadFits log.head
   pub entries_fit : All EntryFits entries
 
@@ -33,6 +34,17 @@ Holds log entries history = IfTold history (IsLogHeld log entries)
 -- the file is a log with these entries, or with one more
 abbrev pub IsLogWithOrWithout : LogHead → List (List ℕ) → List ℕ → Option (List ℕ) → Type 0
 IsLogWithOrWithout head entries entry octets = IsLogFile octets head entries ⊎ IsLogFile octets head (entries ++ entry ∷ [])
+
+-- The disk reads a log that nothing needs yet, with these entries: its name is synced, and what stands there is octets.
+-- They need not be synced.
+pub record IsLogDrafted (log : LogState) (entries : List (List ℕ)) (disk : DiskState) : Type 0 where
+  pub reads : IsLogRead log entries disk
+  pub named : (disk log.name).is_name_loose ≡ false
+  pub are_octets : All (λ octet. octet < 256) (log_text log.head entries)
+
+-- the disk reads this draft of a log, with these entries
+abbrev pub Drafts : LogState → List (List ℕ) → Option History → Type 0
+Drafts log entries history = IfTold history (IsLogDrafted log entries)
 
 -- octets, cut one after another into pieces of these lengths
 abbrev pub cut_by : List ℕ → List ℕ → List (List ℕ)
@@ -86,12 +98,14 @@ pub record IsDurable (name : FileName) (head : LogHead) (entries : List (List �
 
 -- the file stands as it was found, with these entries
 pub record IsFound (found : InspectedLog) (entries : List (List ℕ)) (disk : DiskState) : Type 0 where
+  pub count : found.count ≡ length entries
   pub rest : List ℕ
   pub behind : found.behind ≡ length rest
   pub stands : IsStanding found.name found.head entries found.end found.gate rest disk
 
 -- and a crash leaves it so
 pub record IsFoundKept (found : InspectedLog) (entries : List (List ℕ)) (disk : DiskState) : Type 0 where
+  pub count : found.count ≡ length entries
   pub rest : List ℕ
   pub behind : found.behind ≡ length rest
   pub kept : IsDurable found.name found.head entries found.end found.gate rest disk

@@ -1,5 +1,5 @@
--- What a caller sees of a log: its file's name, its head, where its last gate stands, and its room, which is how many
--- octets of records, each with the gate after it, it can lay out without memory.
+-- What a caller sees of a log: its file's name, its head, where its last gate stands, how many entries it has, and its room,
+-- which is how many octets of records, each with the gate after it, it can lay out without memory.
 use Rattle.std.specs.Prelude.{◌≡◌, ℕ}
 use Rattle.disk_model.specs.declared.name.FileName.{FileName}
 use Rattle.model_logs.specs.declared.log_head.LogHead.{LogHead}
@@ -8,14 +8,16 @@ pub record LogState : Type 0 where
   pub name : FileName
   pub head : LogHead
   pub end : ℕ
+  pub count : ℕ
   pub room : ℕ
 
--- What a caller sees of a log that was looked at: its file's name, its head, where its last gate stands, that gate's
--- value, and how many octets stand behind it.
+-- What a caller sees of a log that was looked at: its file's name, its head, where its last gate stands, how many entries it
+-- has, that gate's value, and how many octets stand behind it.
 pub record InspectedLog : Type 0 where
   pub name : FileName
   pub head : LogHead
   pub end : ℕ
+  pub count : ℕ
   pub gate : ℕ
   pub behind : ℕ
 

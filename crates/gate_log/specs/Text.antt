@@ -4,10 +4,11 @@ use Rattle.std.specs.Borrow.{Bor}
 use Rattle.model_logs.specs.LogFile.{EntryFits, opened, EndsLog, IsLog, log_end}
 use Rattle.gate_log.specs.declared.text.LogText.{LogText}
 
--- the text is a log with these entries, and its last gate stands where it says
+-- the text is a log with these entries, as many as it says, and its last gate stands where it says
 pub record IsLogText (text : LogText) (entries : List (List ℕ)) : Type 0 where
   pub log : IsLog text.octets text.head entries
   pub end : text.end ≡ log_end entries
+  pub count : text.count ≡ length entries
 
 -- a gate of a log stands at this place of the octets, and these are the entries behind it
 pub record HasEntriesAt (octets : List ℕ) (gate : ℕ) (entries : List (List ℕ)) : Type 0 where

@@ -28,6 +28,8 @@ pub struct FoundLog {
     head: LogHead,
     /// Where the last gate stands.
     end: u64,
+    /// How many entries it has.
+    count: u64,
     /// The value of that gate.
     gate: u8,
     /// How many octets stand behind it.
@@ -35,14 +37,14 @@ pub struct FoundLog {
 }
 
 impl Model for FoundLog {
-    ghost use Rattle.std.specs.Prelude.{◌<◌, ◌^◌, ◌-◌};
+    ghost use Rattle.std.specs.Prelude.{◌<◌, ◌≤◌, ◌^◌, ◌-◌};
     ghost use Rattle.gate_log.specs.State.{InspectedLog};
 
     ghost Value = { InspectedLog };
 
-    ghost view = { λ log. record { name = log.name; head = log.head; end = log.end; gate = log.gate; behind = log.behind } };
+    ghost view = { λ log. record { name = log.name; head = log.head; end = log.end; count = log.count; gate = log.gate; behind = log.behind } };
 
-    ghost invariant = { λ log. log.end < 2 ^ 64 - 1 };
+    ghost invariant = { λ log. (log.end < 2 ^ 64 - 1) × (log.count ≤ log.end) };
 }
 
 /// Reads the log that has this head, and changes nothing. Its entries stay where they were read.
@@ -56,7 +58,7 @@ pub fn inspect_text<D: Disk>(
     // After Ok what was read is what the file has.
     ensures octets { IfOk result (λ found. IfTold (D.history disk.old) (λ now. reading (now name) ≡ Some found.1.octets)) }
     ensures text { IfOk result (λ found. (entries : List (List ℕ)) × IsLogText found.1 entries) }
-    ensures log { IfOk result (λ found. (found.0.name ≡ name) × (found.0.head ≡ head) × (found.0.end ≡ found.1.end) × (found.1.head ≡ head)) }
+    ensures log { IfOk result (λ found. (found.0.name ≡ name) × (found.0.head ≡ head) × (found.0.end ≡ found.1.end) × (found.1.head ≡ head) × (found.0.count ≡ found.1.count)) }
     ensures found { IfOk result (λ found. (entries : List (List ℕ)) → IsLogText found.1 entries → IfTold (D.history disk.old) (IsFound found.0 entries)) }
 
     // The file still stands so, and where a crash left it as it read, it does.
@@ -77,7 +79,7 @@ pub fn inspect_text<D: Disk>(
 /// What stands at the end of a log that was read.
 fn found_in(name: FileName, text: &LogText) -> FoundLog
     requires { (entries : List (List ℕ)) × IsLogText text.now entries }
-    ensures log { (result.name ≡ name) × (result.head ≡ text.now.head) × (result.end ≡ text.now.end) }
+    ensures log { (result.name ≡ name) × (result.head ≡ text.now.head) × (result.end ≡ text.now.end) × (result.count ≡ text.now.count) }
     ensures end { (entries : List (List ℕ)) (log : IsLog text.now.octets result.head entries) → text.now.end ≡ log_end entries → (result.gate ≡ log.gate) × (result.behind ≡ length log.behind) }
 {
     let octets = text.octets.as_slice();
@@ -86,6 +88,7 @@ fn found_in(name: FileName, text: &LogText) -> FoundLog
         name,
         head: text.head,
         end: text.end,
+        count: text.count,
         gate: octets[end],
         behind: (octets.len() - end - 1) as u64,
     }
@@ -101,7 +104,7 @@ pub fn inspect_log<D: Disk>(
     requires version { IsVersionOf head.kind head.version }
     // After Ok what was read is what the file has.
     ensures octets { IfOk result (λ found. (octets : List ℕ) × IsReading octets found.1 × IfTold (D.history disk.old) (λ now. reading (now name) ≡ Some octets)) }
-    ensures log { IfOk result (λ found. (found.0.name ≡ name) × (found.0.head ≡ head) × (found.0.end ≡ found.1.end) × (found.1.head ≡ head)) }
+    ensures log { IfOk result (λ found. (found.0.name ≡ name) × (found.0.head ≡ head) × (found.0.end ≡ found.1.end) × (found.1.head ≡ head) × (found.0.count ≡ length found.1.entries)) }
     ensures found { IfOk result (λ found. IfTold (D.history disk.old) (IsFound found.0 found.1.entries)) }
 
     // The file still stands so, and where a crash left it as it read, it does.
@@ -138,7 +141,7 @@ impl FoundLog {
         ensures others_stay { EachImage (λ _ image. OthersStay self.name (D.history disk.old) image) (D.history disk.old) (D.history disk.new) }
 
         // After Ok the file has these entries and a closed gate, and no other file has changed.
-        ensures log { IfOk result (λ log. log ≡ record { name = self.name; head = self.head; end = self.end; room = 0 }) }
+        ensures log { IfOk result (λ log. log ≡ record { name = self.name; head = self.head; end = self.end; count = self.count; room = 0 }) }
         ensures reads { IfOk result (λ log. (entries : List (List ℕ)) → IfTold (D.history disk.old) (IsFound self entries) → Reads log entries (D.history disk.new)) }
         ensures holds { IfOk result (λ log. (entries : List (List ℕ)) → IfTold (D.history disk.old) (IsFoundKept self entries) → Holds log entries (D.history disk.new)) }
         ensures others { OnOk result (SameButFor self.name (D.history disk.old) (D.history disk.new)) }
@@ -150,6 +153,6 @@ impl FoundLog {
         ensures unfailed { OnOk result (NoFault (D.faults disk.old) (D.faults disk.new)) }
     {
         repair(disk, self.name, self.end, self.gate, self.behind)?;
-        Ok(GateLog::at_rest(alloc, self.name, self.head, self.end))
+        Ok(GateLog::at_rest(alloc, self.name, self.head, self.end, self.count))
     }
 }

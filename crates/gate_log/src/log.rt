@@ -1,10 +1,10 @@
 // Logs on a disk.
-ghost use Rattle.std.specs.Prelude.{◌≡◌, ◌≢◌, Some, IsErrOf, ◌+◌, ◌-◌, ◌*◌, ◌<◌, ◌≤◌, ◌^◌, ◌++◌, ◌∷◌, [], ℕ, List, All, length, sum, max, OnOk, OnErr, IfOk, IfErr, IsErr, IsOk};
+ghost use Rattle.std.specs.Prelude.{◌≡◌, ◌≢◌, Option, Some, IsErrOf, ◌+◌, ◌-◌, ◌*◌, ◌<◌, ◌≤◌, ◌^◌, ◌++◌, ◌∷◌, [], ℕ, List, All, length, sum, max, OnOk, OnErr, IfOk, IfErr, IsErr, IsOk};
 ghost use Rattle.disk_model.specs.FaultCounts.{NoFault, ChangeFaultCounted, AnyFaultCounted};
-ghost use Rattle.disk_model.specs.Disk.{EachImage, OthersStay, SameButFor, IfTold, Keeps, reading, IsIdle};
+ghost use Rattle.disk_model.specs.Disk.{History, EachImage, OthersStay, SameButFor, IfTold, Keeps, reading, IsIdle};
 ghost use Rattle.model_logs.specs.LogFile.{IsVersionOf, IsLog, IsLogFile};
 ghost use Rattle.gate_log.specs.State.{LogState, IsSameLog};
-ghost use Rattle.gate_log.specs.Log.{Reads, Holds, cut_by, IsLogWithOrWithout, IsLogWithOrWithoutAll, IsAtMostAsLong, NamedButFor};
+ghost use Rattle.gate_log.specs.Log.{Reads, Holds, Drafts, cut_by, IsLogWithOrWithout, IsLogWithOrWithoutAll, IsAtMostAsLong, NamedButFor};
 ghost use Rattle.gate_log.specs.Reading.{IsReading, IsOpenError};
 
 use crate::error::{DiskFault, LogError};
@@ -23,38 +23,48 @@ use std::marker::Model;
 
 /// A log that was made or opened.
 ///
-/// It holds no entries, only what is needed to add one. After a call that answered a fault it isn't used again.
+/// It holds no entries, only what is needed to add one, and how many there are. After a call that answered a fault it isn't used again.
 #[derive(Drop)]
 pub struct GateLog {
     name: FileName,
     head: LogHead,
     /// Where the last gate stands.
     end: u64,
+    /// How many entries it has.
+    count: u64,
     /// Where a record is laid out before it is written.
     buffer: Vec<u8>,
 }
 
 impl Model for GateLog {
-    ghost use Rattle.std.specs.Prelude.{◌<◌, ◌^◌, ◌-◌, vec_len};
+    ghost use Rattle.std.specs.Prelude.{◌<◌, ◌≤◌, ◌^◌, ◌-◌, vec_len};
     ghost use Rattle.gate_log.specs.State.{LogState};
 
     ghost Value = { LogState };
 
-    ghost view = { λ log. record { name = log.name; head = log.head; end = log.end; room = vec_len log.buffer } };
+    ghost view = { λ log. record { name = log.name; head = log.head; end = log.end; count = log.count; room = vec_len log.buffer } };
 
-    ghost invariant = { λ log. (log.end < 2 ^ 64 - 1) × (vec_len log.buffer < 2 ^ 32) };
+    ghost invariant = { λ log. (log.end < 2 ^ 64 - 1) × (vec_len log.buffer < 2 ^ 32) × (log.count ≤ log.end) };
 }
 
 impl GateLog {
-    /// The log whose last gate, closed, stands there with nothing behind it.
-    pub(crate) fn at_rest(alloc: Global, name: FileName, head: LogHead, end: u64) -> GateLog
-        requires { end < 2 ^ 64 - 1 }
-        ensures { result ≡ record { name = name; head = head; end = end; room = 0 } }
+    /// The log of so many entries whose last gate, closed, stands there with nothing behind it.
+    pub(crate) fn at_rest(
+        alloc: Global,
+        name: FileName,
+        head: LogHead,
+        end: u64,
+        count: u64,
+    ) -> GateLog
+        requires end { end < 2 ^ 64 - 1 }
+        requires count { count ≤ end }
+        ensures { result ≡ record { name = name; head = head; end = end; count = count; room = 0 } }
     {
         GateLog {
             name,
             head,
             end,
+            count,
             buffer: Vec::new(alloc),
         }
     }
@@ -64,6 +74,13 @@ impl GateLog {
         ensures end { self.now.end < 2 ^ 64 }
     {
         let _ = &self.end;
+    }
+
+    /// How many entries it has.
+    pub fn count(&self) -> u64
+        ensures { result ≡ self.now.count }
+    {
+        self.count
     }
 
     /// How many octets of an entry, and 5 for each entry, the log can add without memory.
@@ -125,6 +142,7 @@ impl GateLog {
         ensures unfailed { OnOk result (NoFault (D.faults disk.old) (D.faults disk.new)) }
         ensures log { IsSameLog self.old self.new }
         ensures further { OnOk result (self.new.end ≡ self.old.end + (length entry.now + 5)) }
+        ensures count { OnOk result (self.new.count ≡ self.old.count + 1) }
     {
         let size = self.size_of(entry);
         self.append_many(disk, entry, &[size])
@@ -173,16 +191,78 @@ impl GateLog {
         ensures unfailed { OnOk result (NoFault (D.faults disk.old) (D.faults disk.new)) }
         ensures log { IsSameLog self.old self.new }
         ensures further { OnOk result (self.new.end ≡ self.old.end + (length octets.now + 5 * length lengths.now)) }
+        ensures count { OnOk result (self.new.count ≡ self.old.count + length lengths.now) }
     {
         let size = lay_out(&mut self.buffer, octets, lengths);
-        disk.write_at(self.name, self.end + 1, &self.buffer[..size])?;
+        disk.write_at(self.name, self.end + 1, &self.buffer[..size])?; // behind the closed gate
         disk.sync(self.name)?; // before the gate opens on the records
         disk.write_at(self.name, self.end, &[OPEN])?;
         disk.sync(self.name)?;
         self.end += size as u64;
+        self.count += lengths.len() as u64;
+        Ok(())
+    }
+
+    /// Adds entries to a draft, a log that nothing needs yet, as `append_many` does, and syncs nothing: until it is
+    /// settled, a crash may leave anything of its file.
+    pub fn extend<D: Disk>(
+        &mut self,
+        disk: &mut D,
+        octets: &[u8],
+        lengths: &[u32],
+    ) -> Result<(), DiskFault>
+        requires read { (entries : List (List ℕ)) × Reads self.old entries (D.history disk.old) }
+        requires many { 1 ≤ length lengths.now }
+        requires some { All (λ size. 1 ≤ size) lengths.now }
+        requires whole { sum lengths.now ≡ length octets.now }
+        requires room { length octets.now + 5 * length lengths.now ≤ self.old.room }
+
+        // Of the other files each image has what an image had before.
+        ensures others_stay { EachImage (λ _ image. OthersStay self.old.name (D.history disk.old) image) (D.history disk.old) (D.history disk.new) }
+
+        // After Ok the draft has these entries, and no other file has changed.
+        ensures drafted { OnOk result ((entries : List (List ℕ)) → Drafts self.old entries (D.history disk.old) → Drafts self.new (entries ++ cut_by lengths.now octets.now) (D.history disk.new)) }
+        ensures others { OnOk result (SameButFor self.old.name (D.history disk.old) (D.history disk.new)) }
+
+        ensures fault { ChangeFaultCounted (IsErr result) (D.faults disk.old) (D.faults disk.new) }
+        ensures unread { (D.faults disk.new).reads ≡ (D.faults disk.old).reads }
+        ensures unfailed { OnOk result (NoFault (D.faults disk.old) (D.faults disk.new)) }
+        ensures log { IsSameLog self.old self.new }
+        ensures further { OnOk result (self.new.end ≡ self.old.end + (length octets.now + 5 * length lengths.now)) }
+        ensures count { OnOk result (self.new.count ≡ self.old.count + length lengths.now) }
+    {
+        let size = lay_out(&mut self.buffer, octets, lengths);
+        disk.write_at(self.name, self.end + 1, &self.buffer[..size])?;
+        disk.write_at(self.name, self.end, &[OPEN])?;
+        self.end += size as u64;
+        self.count += lengths.len() as u64;
+        Ok(())
+    }
+
+    /// Syncs a draft: a crash leaves it as it reads then.
+    pub fn settle<D: Disk>(&self, disk: &mut D) -> Result<(), DiskFault>
+        requires read { (entries : List (List ℕ)) × Drafts self.now entries (D.history disk.old) }
+
+        // Of the other files each image has what an image had before.
+        ensures others_stay { EachImage (λ _ image. OthersStay self.now.name (D.history disk.old) image) (D.history disk.old) (D.history disk.new) }
+
+        // After Ok the disk holds the log, and no other file has changed.
+        ensures held { OnOk result ((entries : List (List ℕ)) → Drafts self.now entries (D.history disk.old) → Holds self.now entries (D.history disk.new)) }
+        ensures others { OnOk result (SameButFor self.now.name (D.history disk.old) (D.history disk.new)) }
+
+        ensures fault { ChangeFaultCounted (IsErr result) (D.faults disk.old) (D.faults disk.new) }
+        ensures unread { (D.faults disk.new).reads ≡ (D.faults disk.old).reads }
+        ensures unfailed { OnOk result (NoFault (D.faults disk.old) (D.faults disk.new)) }
+    {
+        disk.sync(self.name)?;
         Ok(())
     }
 }
+
+/// A log that the disk holds, as one that was just made, is a draft.
+pub fn held_logs_are_drafts()
+    ensures { (log : LogState) (entries : List (List ℕ)) (history : Option History) → Holds log entries history → Drafts log entries history }
+{}
 
 /// Makes an empty log, synced, with its name. What stood in a file of that name is gone.
 pub fn create_log<D: Disk>(
@@ -195,7 +275,7 @@ pub fn create_log<D: Disk>(
     // At every moment of the call each image has in this file no more octets than it could have before, or than 26.
     ensures any_moment { EachImage (λ _ image. IfTold (D.history disk.old) (λ before. IsAtMostAsLong 26 (before name) (image name)) × OthersStay name (D.history disk.old) image) (D.history disk.old) (D.history disk.new) }
     ensures made { IfOk result (λ log. Holds log [] (D.history disk.new)) }
-    ensures log { IfOk result (λ log. log ≡ record { name = name; head = head; end = 25; room = 0 }) }
+    ensures log { IfOk result (λ log. log ≡ record { name = name; head = head; end = 25; count = 0; room = 0 }) }
     ensures others { OnOk result (NamedButFor name (D.history disk.old) (D.history disk.new)) }
     ensures refused { IfErr result (λ error. error ≡ LogError.DiskFault) }
     ensures fault { ChangeFaultCounted (IsErr result) (D.faults disk.old) (D.faults disk.new) }
@@ -203,7 +283,7 @@ pub fn create_log<D: Disk>(
     ensures unfailed { OnOk result (NoFault (D.faults disk.old) (D.faults disk.new)) }
 {
     make_file(disk, name, &first_text(head))?;
-    Ok(GateLog::at_rest(alloc, name, head, HEAD_SIZE as u64))
+    Ok(GateLog::at_rest(alloc, name, head, HEAD_SIZE as u64, 0))
 }
 
 /// Opens the log that has this head, and reads its entries. What stands behind its last gate is cut off, and that gate is
@@ -224,7 +304,7 @@ pub fn open_log<D: Disk>(
 
     // After Ok what was read is what the file had.
     ensures octets { IfOk result (λ opened. (octets : List ℕ) × IsReading octets opened.1 × IfTold (D.history disk.old) (λ now. reading (now name) ≡ Some octets)) }
-    ensures log { IfOk result (λ opened. (opened.0 ≡ record { name = name; head = head; end = opened.1.end; room = 0 }) × (opened.1.head ≡ head)) }
+    ensures log { IfOk result (λ opened. (opened.0 ≡ record { name = name; head = head; end = opened.1.end; count = length opened.1.entries; room = 0 }) × (opened.1.head ≡ head)) }
     ensures reads { IfOk result (λ opened. Reads opened.0 opened.1.entries (D.history disk.new)) }
     ensures holds { IfOk result (λ opened. (octets : List ℕ) → IfTold (D.history disk.old) (λ now. Keeps (now name) octets) → Holds opened.0 opened.1.entries (D.history disk.new)) }
     ensures others { OnOk result (SameButFor name (D.history disk.old) (D.history disk.new)) }

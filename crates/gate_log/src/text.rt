@@ -20,6 +20,8 @@ pub struct LogText {
     pub octets: Octets,
     /// Where the last gate stands.
     pub end: u64,
+    /// How many entries there are.
+    pub count: u64,
 }
 
 impl LogText {
@@ -95,15 +97,18 @@ fn check_entries(octets: Octets, head: LogHead) -> Result<LogText, LogError>
 {
     let text = octets.as_slice();
     let mut gate = HEAD_SIZE;
+    let mut count = 0;
     while text[gate] == OPEN && gate + 1 < text.len() {
         let Some(entry) = first_entry(&text[gate + 1..]) else {
             return Err(LogError::LogDamaged(gate as u64 + 1));
         };
         gate += entry.len() + 5;
+        count += 1;
     }
     Ok(LogText {
         head,
         octets,
         end: gate as u64,
+        count,
     })
 }

@@ -1,16 +1,19 @@
 -- The instances that tasks claim to hold are those that their requests' events found, placed or pinned.
-use Rattle.lane_tasks.proofs.Common.{◌≡◌, ◌+◌, ◌==◌, ℕ, Bool, true, false, cond, List, [], ◌∷◌, ◌++◌, map, Option, Some, None, refl, sym, ◌∙◌, ap, subst, arith, inl, inr, ◌⊎◌, All, flat_map, is_none, list_any, option_map_or, All-head, All-nil, All-cons, All-tail, list_any-append, sum_by-cons}
-use Rattle.lane_tasks.proofs.Common.{History, InstRow, Uid, Refusal, Reply, Request, MapMeaning, EventPart, Run, RunEvent, own_events, StoreValue, Held, one_if, fetch_claims, IsAtFetch, FetchStage, MakeStage, make_claims, IsAt, save_claims, IsAtSave, IsReadyToDeliver, SaveValue, SaveStage}
+use Rattle.lane_tasks.proofs.Common.{◌≡◌, ◌+◌, ◌==◌, ℕ, Bool, true, false, cond, List, [], ◌∷◌, ◌++◌, Option, Some, None, refl, sym, ◌∙◌, ap, arith, inl, inr, ◌⊎◌, All, flat_map, is_none, list_any, option_map_or, All-head, All-nil, All-cons, All-tail, list_any-append, sum_by-cons}
+use Rattle.lane_tasks.proofs.Common.{History, InstRow, Uid, Refusal, Reply, Request, MapMeaning, EventPart, Run, RunEvent, own_events, StoreValue, Held, one_if, fetch_claims, IsAtFetch, FetchStage, make_claims, IsAt, save_claims, IsAtSave, IsReadyToDeliver, SaveValue, SaveStage}
 use Rattle.lane_tasks.proofs.Common.{purge_claims, IsReadyTask, HasNamedFound, StandsTask, claims_at, Task}
 use Rattle.std.proofs.Common.{◌≤◌, ◌&&◌, ◌||◌}
 use Rattle.std.specs.Prelude.{find, option_map}
 use Rattle.std.specs.Str.{bytes_eq}
 use Rattle.std.proofs.lemmas.List.Concat.{flat_map-cons}
 use Rattle.std.proofs.lemmas.Slice.Eq.{bytes_eq-Decides}
+use Rattle.std.proofs.lemmas.Bool.{or_left, or_right, or_cases, and_from, or_from, and_parts, and_right}
+use Rattle.std.proofs.lemmas.List.Elements.{All-weaker}
+use Rattle.std.proofs.lemmas.List.Folds.{list_any_none}
 use Rattle.attach_detach.specs.declared.message.Detached.{Detached}
 use Rattle.mdbox_base.specs.declared.ids.InstId.{InstId}
 use Rattle.mdbox_base.specs.declared.requests.Request.TheVariants as request
-use Rattle.model_meaning.specs.MapMeaning.{MapRecord, named_instances, record_at}
+use Rattle.model_meaning.specs.MapMeaning.{MapRecord, record_at}
 use Rattle.list_machine.specs.Run.{Pin, is_unpinning, is_unpinning_part}
 use Rattle.journal.specs.Found.{is_same_instance}
 use Rattle.map_index.specs.Shown.{is_instance_named}
@@ -21,16 +24,15 @@ use Rattle.store_core.specs.Keeping.{holds_of}
 use Rattle.store_core.specs.Knows.{knows_instance}
 use Rattle.store_core.specs.StoreInstances.{IsKnownRow}
 use Rattle.mail_fetch.specs.Claims.{IsReadyToFetch}
-use Rattle.mail_fetch.specs.Stages.{HasPinned, HasReadAllBut, ReadPiece, UnpinsNext}
+use Rattle.mail_fetch.specs.Stages.{HasPinned, ReadPiece, UnpinsNext}
 use Rattle.mail_fetch.specs.declared.parts.StoredAt.{StoredAt}
 use Rattle.mail_fetch.specs.declared.task.FetchStage.TheVariants as fetch_stage
-use Rattle.mail_ops.specs.declared.making.MakeStage.TheVariants as make_stage
 use Rattle.mail_ops.specs.declared.task.TaskStage.{TaskStage}
 use Rattle.mail_ops.specs.declared.task.TaskStage.TheVariants as ops_stage
 use Rattle.mail_save.specs.SaveStages.{AreTakenSoFar}
 use Rattle.mail_save.specs.declared.task.SaveStage.TheVariants as save_stage
 use Rattle.lane_tasks.specs.Uses.{UsesInstance, finds_instance, pins_instance}
-use Rattle.lane_tasks.proofs.RoomLemmas.{purge_holds}
+use Rattle.lane_tasks.proofs.RoomLemmas.{purge_holds, make_holds}
 use Rattle.lane_tasks.specs.declared.task.Task.TheVariants as task
 use Rattle.lane_tasks.proofs.NamedLemmas.{found_by, front_found, one_more, placed_found}
 
@@ -41,26 +43,6 @@ no_true e = absurd (cc e)
 
 none_held : {X : Type 0} → (n : ℕ) → n ≡ 0 → 1 ≤ n → X
 none_held n z some = absurd (omega (arith, z, some))
-
-first_true : (a b : Bool) → a ≡ true → (a || b) ≡ true
-first_true true b e = refl
-first_true false b e = no_true e
-
-second_true : (a b : Bool) → b ≡ true → (a || b) ≡ true
-second_true true b e = refl
-second_true false b e = e
-
-one_true : (a b : Bool) → (a || b) ≡ true → (a ≡ true) ⊎ (b ≡ true)
-one_true true b e = inl refl
-one_true false b e = inr e
-
-both_true : (a b : Bool) → a ≡ true → b ≡ true → (a && b) ≡ true
-both_true true b x y = y
-both_true false b x y = no_true x
-
-last_true : (a b : Bool) → (a && b) ≡ true → b ≡ true
-last_true true b e = e
-last_true false b e = no_true e
 
 same_id : (a b : InstId) → bytes_eq a.0 b.0 ≡ true → a ≡ b
 same_id a b e = ap (λ (octets : List ℕ). record { 0 = octets }) ((bytes_eq-Decides a.0 b.0).0 e)
@@ -77,7 +59,7 @@ same_row store instance row knows known same =
     by_known (Some k) hash e =
         let is : k.row ≡ row = cc e in
         let hashes : row.hash.0 ≡ instance.hash.0 = sym (ap (λ (r : InstRow). r.hash.0) is) ∙ (bytes_eq-Decides k.row.hash.0 instance.hash.0).0 hash in
-        both_true (bytes_eq instance.hash.0 row.hash.0) (bytes_eq instance.id.0 row.id.0) ((bytes_eq-Decides instance.hash.0 row.hash.0).1 (sym hashes)) ((bytes_eq-Decides instance.id.0 row.id.0).1 (ap (λ (id : InstId). id.0) (sym same)))
+        and_from (bytes_eq instance.hash.0 row.hash.0) (bytes_eq instance.id.0 row.id.0) ((bytes_eq-Decides instance.hash.0 row.hash.0).1 (sym hashes)) ((bytes_eq-Decides instance.id.0 row.id.0).1 (ap (λ (id : InstId). id.0) (sym same)))
 
 -- an instance that is held once for a known row of its id is one of these
 held_same : {D : Type 0} → (store : StoreValue D) (instance : InstRow) (rows : List InstRow) → knows_instance store instance ≡ true → All (IsKnownRow store.instances.known) rows → 1 ≤ holds_of rows instance.id → list_any (is_same_instance instance) rows ≡ true
@@ -85,26 +67,25 @@ held_same store instance [] knows known some = none_held (holds_of [] instance.i
 held_same {D} store instance (row ∷ rows) knows known some = by_test (bytes_eq row.id.0 instance.id.0) refl (held_same store instance rows knows (All-tail (IsKnownRow store.instances.known) row rows known))
   where
     by_test : (t : Bool) → bytes_eq row.id.0 instance.id.0 ≡ t → (1 ≤ holds_of rows instance.id → list_any (is_same_instance instance) rows ≡ true) → list_any (is_same_instance instance) (row ∷ rows) ≡ true
-    by_test true e more = first_true (is_same_instance instance row) (list_any (is_same_instance instance) rows) (same_row store instance row knows (All-head (IsKnownRow store.instances.known) row rows known) (same_id row.id instance.id e))
+    by_test true e more = or_left (is_same_instance instance row) (list_any (is_same_instance instance) rows) (same_row store instance row knows (All-head (IsKnownRow store.instances.known) row rows known) (same_id row.id instance.id e))
     by_test false e more =
         let none : one_if (bytes_eq row.id.0 instance.id.0) ≡ 0 = ap one_if e in
         let sum : holds_of (row ∷ rows) instance.id ≡ one_if (bytes_eq row.id.0 instance.id.0) + holds_of rows instance.id = sum_by-cons (λ (r : InstRow). one_if (bytes_eq r.id.0 instance.id.0)) row rows in
-        second_true (is_same_instance instance row) (list_any (is_same_instance instance) rows) (more (omega (arith, none, sum, some)))
+        or_right (is_same_instance instance row) (list_any (is_same_instance instance) rows) (more (omega (arith, none, sum, some)))
+
+-- one instance has one id
+same_back : (instance row : InstRow) → is_same_instance instance row ≡ true → bytes_eq row.id.0 instance.id.0 ≡ true
+same_back instance row same = (bytes_eq-Decides row.id.0 instance.id.0).1 (sym ((bytes_eq-Decides instance.id.0 row.id.0).0 (and_parts (bytes_eq instance.hash.0 row.hash.0) (bytes_eq instance.id.0 row.id.0) same).1))
 
 -- and the other way round, known or not
 same_held : (instance : InstRow) (rows : List InstRow) → list_any (is_same_instance instance) rows ≡ true → 1 ≤ holds_of rows instance.id
 same_held instance [] is = no_true is
-same_held instance (row ∷ rows) is = by_case (one_true (is_same_instance instance row) (list_any (is_same_instance instance) rows) is) (same_held instance rows)
-  where
-    sum : holds_of (row ∷ rows) instance.id ≡ one_if (bytes_eq row.id.0 instance.id.0) + holds_of rows instance.id
-    sum = sum_by-cons (λ (r : InstRow). one_if (bytes_eq r.id.0 instance.id.0)) row rows
-
-    by_case : (is_same_instance instance row ≡ true) ⊎ (list_any (is_same_instance instance) rows ≡ true) → (list_any (is_same_instance instance) rows ≡ true → 1 ≤ holds_of rows instance.id) → 1 ≤ holds_of (row ∷ rows) instance.id
-    by_case (inl same) rest =
-        let id : bytes_eq instance.id.0 row.id.0 ≡ true = last_true (bytes_eq instance.hash.0 row.hash.0) (bytes_eq instance.id.0 row.id.0) same in
-        let one : one_if (bytes_eq row.id.0 instance.id.0) ≡ 1 = ap one_if ((bytes_eq-Decides row.id.0 instance.id.0).1 (sym ((bytes_eq-Decides instance.id.0 row.id.0).0 id))) in
-        omega (arith, sum, one)
-    by_case (inr more) rest = let held = rest more in omega (arith, sum, held)
+same_held instance (row ∷ rows) is =
+    let sum = sum_by-cons (λ (r : InstRow). one_if (bytes_eq r.id.0 instance.id.0)) row rows in
+    elim (or_cases (is_same_instance instance row) (list_any (is_same_instance instance) rows) is) [
+      | inl same ↦ let one = ap one_if (same_back instance row same) in omega (arith, sum, one)
+      | inr more ↦ let held = same_held instance rows more in omega (arith, sum, held)
+    ]
 
 -- ---- events
 
@@ -134,7 +115,6 @@ told_by_rows store instance rows own knows known some is = inl (rows_found insta
 
 delivery_told : {D : Type 0} → (now : SaveStage) (name : List ℕ) (time size : ℕ) (octets : List ℕ) (store : StoreValue D) (history : Option History) (run : Run) (place : ℕ) (said : List Reply) (instance : InstRow) → IsAtSave now run place said → IsReadyToDeliver now name time size octets store history
     → knows_instance store instance ≡ true → 1 ≤ save_claims now (Held instance.id) → UsesInstance instance (own_events place run)
-delivery_told (save_stage.First prepared) name time size octets store history run place said instance at ready knows some = none_held 0 refl some
 delivery_told (save_stage.Attaching parts attaching) name time size octets store history run place said instance at ready knows some =
     told_by_rows store instance attaching.found (own_events place run) knows (parts_known attaching.found attaching.parts store.instances.known history ready.kept.0.2.found.found) some (front_found attaching.found (own_events place run) at.0)
 delivery_told (save_stage.Taking parts) name time size octets store history run place said instance at ready knows some =
@@ -145,22 +125,16 @@ delivery_told (save_stage.Placing parts file) name time size octets store histor
     told_by_rows store instance parts.rows (own_events place run) knows (parts_known parts.rows a.prepared.parts store.instances.known history a.found) some (taken_found parts.rows file.0 (own_events place run) at.0)
 delivery_told (save_stage.Storing place_at rows room) name time size octets store history run place said instance at ready knows some =
     told_by_rows store instance rows (own_events place run) knows ready.kept.2.known some (placed_found rows place_at.file.0 place_at.guid.0 (own_events place run) at.0)
-delivery_told (save_stage.Adding added room) name time size octets store history run place said instance at ready knows some = none_held 0 refl some
-delivery_told (save_stage.GivingBack uid why room) name time size octets store history run place said instance at ready knows some = none_held 0 refl some
-delivery_told save_stage.Ended name time size octets store history run place said instance at ready knows some = none_held 0 refl some
+delivery_told now name time size octets store history run place said instance at ready knows some = none_held 0 refl some
 
 -- ---- a record that names an instance
 
 same_named : (instance : InstRow) (rows : List InstRow) → list_any (is_same_instance instance) rows ≡ true → list_any (λ (i : InstRow). bytes_eq i.id.0 instance.id.0) rows ≡ true
 same_named instance [] is = no_true is
-same_named instance (row ∷ rows) is = by_case (one_true (is_same_instance instance row) (list_any (is_same_instance instance) rows) is) (same_named instance rows)
-  where
-    by_case : (is_same_instance instance row ≡ true) ⊎ (list_any (is_same_instance instance) rows ≡ true) → (list_any (is_same_instance instance) rows ≡ true → list_any (λ (i : InstRow). bytes_eq i.id.0 instance.id.0) rows ≡ true)
-        → (bytes_eq row.id.0 instance.id.0 || list_any (λ (i : InstRow). bytes_eq i.id.0 instance.id.0) rows) ≡ true
-    by_case (inl same) rest =
-        let id : bytes_eq instance.id.0 row.id.0 ≡ true = last_true (bytes_eq instance.hash.0 row.hash.0) (bytes_eq instance.id.0 row.id.0) same in
-        first_true (bytes_eq row.id.0 instance.id.0) _ ((bytes_eq-Decides row.id.0 instance.id.0).1 (sym ((bytes_eq-Decides instance.id.0 row.id.0).0 id)))
-    by_case (inr more) rest = second_true (bytes_eq row.id.0 instance.id.0) _ (rest more)
+same_named instance (row ∷ rows) is = elim (or_cases (is_same_instance instance row) (list_any (is_same_instance instance) rows) is) [
+  | inl same ↦ or_left (bytes_eq row.id.0 instance.id.0) _ (same_back instance row same)
+  | inr more ↦ or_right (bytes_eq row.id.0 instance.id.0) _ (same_named instance rows more)
+]
 
 among : (test : InstRow → Bool) (uid : ℕ) (records : List MapRecord) (row : MapRecord) → find (λ r. r.uid == uid) records ≡ Some row → list_any test row.instances ≡ true → list_any test (flat_map (λ r. r.instances) records) ≡ true
 among test uid [] row there is = absurd (let k : None ≡ Some row = there in cc k)
@@ -170,10 +144,10 @@ among test uid (r ∷ more) row there is = ap (list_any test) (flat_map-cons (λ
     by_test true e later =
         let first : find (λ (x : MapRecord). x.uid == uid) (r ∷ more) ≡ Some r = ap (λ (b : Bool). cond b (Some r) (find (λ (x : MapRecord). x.uid == uid) more)) e in
         let same : r ≡ row = let k : Some r ≡ Some row = sym first ∙ there in cc k in
-        first_true (list_any test r.instances) _ (ap (λ (x : MapRecord). list_any test x.instances) same ∙ is)
+        or_left (list_any test r.instances) _ (ap (λ (x : MapRecord). list_any test x.instances) same ∙ is)
     by_test false e later =
         let rest : find (λ (x : MapRecord). x.uid == uid) (r ∷ more) ≡ find (λ (x : MapRecord). x.uid == uid) more = ap (λ (b : Bool). cond b (Some r) (find (λ (x : MapRecord). x.uid == uid) more)) e in
-        second_true (list_any test r.instances) _ (later (sym rest ∙ there))
+        or_right (list_any test r.instances) _ (later (sym rest ∙ there))
 
 named_of : (m : MapMeaning) (uid place : ℕ) (run : Run) (row : MapRecord) (instance : InstRow) → record_at m uid ≡ Some row → row.instances ≡ flat_map found_by (own_events place run) → list_any (finds_instance instance) (own_events place run) ≡ true → is_instance_named m instance.id.0 ≡ true
 named_of m uid place run row instance there names found =
@@ -207,40 +181,20 @@ pub delivery_holds : {D : Type 0} → (t : Task) (store : StoreValue D) (history
 delivery_holds (task.Deliver t) store history name time octets run place said instance s runs found = stage_holds t.stage store run place said instance s.at.0 (s.at.3 runs) found
 delivery_holds (task.Ops t) store history name time octets run place said instance s runs found = none_of_any (finds_instance instance) (own_events place run) (ops_unbegun t.stage run place said s.at) found
 delivery_holds (task.Counts t) store history name time octets run place said instance s runs found = none_of_any (finds_instance instance) (own_events place run) s.at.0 found
-delivery_holds (task.Make t) store history name time octets run place said instance s runs found = absurd (let k : request.Deliver name time octets ≡ request.Make t.name = s.is_of in cc k)
-delivery_holds (task.Copy t) store history name time octets run place said instance s runs found = absurd (let k : request.Deliver name time octets ≡ request.Copy t.name t.uid t.target = s.is_of in cc k)
-delivery_holds (task.Move t) store history name time octets run place said instance s runs found = absurd (let k : request.Deliver name time octets ≡ request.Move t.name t.uid t.target = s.is_of in cc k)
-delivery_holds (task.Expunge t) store history name time octets run place said instance s runs found = absurd (let k : request.Deliver name time octets ≡ request.Expunge t.name t.uid = s.is_of in cc k)
-delivery_holds (task.Fetch t) store history name time octets run place said instance s runs found = absurd (let k : request.Deliver name time octets ≡ request.Fetch t.name t.uid = s.is_of in cc k)
-delivery_holds (task.Resync t) store history name time octets run place said instance s runs found = absurd (let k : request.Deliver name time octets ≡ request.Resync = s.is_of in cc k)
-delivery_holds (task.Purge t) store history name time octets run place said instance s runs found = absurd (let k : request.Deliver name time octets ≡ request.Purge = s.is_of in cc k)
-delivery_holds (task.Delete t) store history name time octets run place said instance s runs found = absurd (let k : request.Deliver name time octets ≡ request.Delete t.name = s.is_of in cc k)
-delivery_holds (task.Rename t) store history name time octets run place said instance s runs found = absurd (let k : request.Deliver name time octets ≡ request.Rename t.name t.target = s.is_of in cc k)
+delivery_holds t store history name time octets run place said instance s runs found = absurd (cc s.is_of)
 
 -- ---- a fetch
 
 -- an event of this part unpinned nothing
 part_pinned : (event : RunEvent) (part : EventPart) → event.part ≡ part → is_unpinning_part part ≡ false → is_unpinning event ≡ false
-part_pinned event part is none = ap (λ (p : EventPart). is_none event.refused && is_unpinning_part p) is ∙ and_false (is_none event.refused) (is_unpinning_part part) none
-  where
-    and_false : (a b : Bool) → b ≡ false → (a && b) ≡ false
-    and_false true b e = e
-    and_false false b e = refl
-
-either_false : (a b : Bool) → a ≡ false → b ≡ false → (a || b) ≡ false
-either_false true b x y = absurd (let k : true ≡ false = x in cc k)
-either_false false b x y = y
+part_pinned event part is none = ap (λ (p : EventPart). is_none event.refused && is_unpinning_part p) is ∙ and_right (is_none event.refused) (is_unpinning_part part) none
 
 pieces_pinned : (events : List RunEvent) → All (ReadPiece None) events → list_any is_unpinning events ≡ false
-pieces_pinned [] all = refl
-pieces_pinned (e ∷ more) all =
-    let first = All-head (ReadPiece None) e more all in either_false (is_unpinning e) (list_any is_unpinning more) (part_pinned e _ first.part refl) (pieces_pinned more (All-tail (ReadPiece None) e more all))
+pieces_pinned events all = list_any_none is_unpinning events (All-weaker (ReadPiece None) (λ event. is_unpinning event ≡ false) (λ event piece. part_pinned event _ piece.part refl) events all)
 
 pieces_bare : (instance : InstRow) (events : List RunEvent) → All (ReadPiece None) events → list_any (pins_instance instance) events ≡ false
-pieces_bare instance [] all = refl
-pieces_bare instance (e ∷ more) all =
-    let first = All-head (ReadPiece None) e more all in
-    either_false (pins_instance instance e) (list_any (pins_instance instance) more) (ap (λ (ps : List Pin). list_any (λ p. list_any (is_same_instance instance) p.instances) ps) first.pinned) (pieces_bare instance more (All-tail (ReadPiece None) e more all))
+pieces_bare instance events all = list_any_none (pins_instance instance) events
+    (All-weaker (ReadPiece None) (λ event. pins_instance instance event ≡ false) (λ event piece. ap (λ (ps : List Pin). list_any (λ p. list_any (is_same_instance instance) p.instances) ps) piece.pinned) events all)
 
 -- what it pinned
 pin_has : (from : StoredAt) (own behind : List RunEvent) (instance : InstRow) (p : HasPinned from own behind) → pins_instance instance p.pin ≡ (list_any (is_same_instance instance) from.instances || false)
@@ -248,8 +202,8 @@ pin_has from own behind instance p = ap (λ (ps : List Pin). list_any (λ x. lis
 
 pinned_told : (from : StoredAt) (own behind : List RunEvent) (instance : InstRow) → HasPinned from own behind → list_any is_unpinning behind ≡ false → list_any (is_same_instance instance) from.instances ≡ true → UsesInstance instance own
 pinned_told from own behind instance p still is = inr (
-  ap (list_any (pins_instance instance)) p.own_are ∙ first_true (pins_instance instance p.pin) (list_any (pins_instance instance) behind) (pin_has from own behind instance p ∙ first_true (list_any (is_same_instance instance) from.instances) false is),
-  ap (list_any is_unpinning) p.own_are ∙ either_false (is_unpinning p.pin) (list_any is_unpinning behind) (part_pinned p.pin _ p.part refl) still,
+  ap (list_any (pins_instance instance)) p.own_are ∙ or_left (pins_instance instance p.pin) (list_any (pins_instance instance) behind) (pin_has from own behind instance p ∙ or_left (list_any (is_same_instance instance) from.instances) false is),
+  ap (list_any is_unpinning) p.own_are ∙ or_from (is_unpinning p.pin) (list_any is_unpinning behind) (part_pinned p.pin _ p.part refl) still,
 )
 
 or_none : (b : Bool) → (b || false) ≡ true → b ≡ true
@@ -257,21 +211,20 @@ or_none true e = refl
 or_none false e = e
 
 pinned_same : (from : StoredAt) (own behind : List RunEvent) (instance : InstRow) → HasPinned from own behind → list_any (pins_instance instance) behind ≡ false → list_any (pins_instance instance) own ≡ true → list_any (is_same_instance instance) from.instances ≡ true
-pinned_same from own behind instance p bare any = by_case (one_true (pins_instance instance p.pin) (list_any (pins_instance instance) behind) (sym (ap (list_any (pins_instance instance)) p.own_are) ∙ any))
-  where
-    by_case : (pins_instance instance p.pin ≡ true) ⊎ (list_any (pins_instance instance) behind ≡ true) → list_any (is_same_instance instance) from.instances ≡ true
-    by_case (inl is) = or_none (list_any (is_same_instance instance) from.instances) (sym (pin_has from own behind instance p) ∙ is)
-    by_case (inr is) = no_true (sym bare ∙ is)
+pinned_same from own behind instance p bare any = elim (or_cases (pins_instance instance p.pin) (list_any (pins_instance instance) behind) (sym (ap (list_any (pins_instance instance)) p.own_are) ∙ any)) [
+  | inl is ↦ or_none (list_any (is_same_instance instance) from.instances) (sym (pin_has from own behind instance p) ∙ is)
+  | inr is ↦ no_true (sym bare ∙ is)
+]
 
 -- behind the last piece, one that was refused
 last_pinned : (front : List RunEvent) (last : RunEvent) (why : Refusal) → All (ReadPiece None) front → ReadPiece (Some why) last → list_any is_unpinning (front ++ last ∷ []) ≡ false
-last_pinned front last why all r = list_any-append is_unpinning front (last ∷ []) ∙ either_false (list_any is_unpinning front) (is_unpinning last || false) (pieces_pinned front all) (either_false (is_unpinning last) false (part_pinned last _ r.part refl) refl)
+last_pinned front last why all r = list_any-append is_unpinning front (last ∷ []) ∙ or_from (list_any is_unpinning front) (is_unpinning last || false) (pieces_pinned front all) (or_from (is_unpinning last) false (part_pinned last _ r.part refl) refl)
 
 last_bare : (instance : InstRow) (front : List RunEvent) (last : RunEvent) (why : Refusal) → All (ReadPiece None) front → ReadPiece (Some why) last → list_any (pins_instance instance) (front ++ last ∷ []) ≡ false
 last_bare instance front last why all r =
     list_any-append (pins_instance instance) front (last ∷ [])
-    ∙ either_false (list_any (pins_instance instance) front) (pins_instance instance last || false) (pieces_bare instance front all)
-    (either_false (pins_instance instance last) false (ap (λ (ps : List Pin). list_any (λ p. list_any (is_same_instance instance) p.instances) ps) r.pinned) refl)
+    ∙ or_from (list_any (pins_instance instance) front) (pins_instance instance last || false) (pieces_bare instance front all)
+    (or_from (pins_instance instance last) false (ap (λ (ps : List Pin). list_any (λ p. list_any (is_same_instance instance) p.instances) ps) r.pinned) refl)
 
 unpins_told : (from : StoredAt) (given : Reply) (own : List RunEvent) (instance : InstRow) → UnpinsNext from given own → list_any (is_same_instance instance) from.instances ≡ true → UsesInstance instance own
 unpins_told from given own instance (inl read) is = pinned_told from own read.1.0 instance read.1.1 (pieces_pinned read.1.0 read.1.2) is
@@ -291,12 +244,7 @@ fetch_told (fetch_stage.Unpinning from given) store history run place said insta
 fetch_told (fetch_stage.Removing file given) store history run place said instance at ready knows some = none_held 0 refl some
 
 last_any : (p : RunEvent → Bool) (events : List RunEvent) (event : RunEvent) → p event ≡ true → list_any p (events ++ event ∷ []) ≡ true
-last_any p [] event e = ap (λ (b : Bool). b || false) e
-last_any p (a ∷ events) event e = by_test (p a) (last_any p events event e)
-  where
-    by_test : (b : Bool) → list_any p (events ++ event ∷ []) ≡ true → (b || list_any p (events ++ event ∷ [])) ≡ true
-    by_test true rest = refl
-    by_test false rest = rest
+last_any p events event e = list_any-append p events (event ∷ []) ∙ or_right (list_any p events) (p event || false) (or_left (p event) false e)
 
 fetch_keeps : (now : FetchStage) (stopped : Bool) (history : Option History) (run : Run) (place : ℕ) (said : List Reply) (instance : InstRow) → IsAtFetch now stopped history run place said → list_any (pins_instance instance) (own_events place run) ≡ true → list_any is_unpinning (own_events place run) ≡ false
     → 1 ≤ fetch_claims now (Held instance.id)
@@ -315,21 +263,10 @@ pub fetch_holds : {D : Type 0} → (t : Task) (store : StoreValue D) (history : 
 fetch_holds (task.Fetch t) store history name uid run place said instance s any still = fetch_keeps t.stage store.stopped history run place said instance s.at any still
 fetch_holds (task.Ops t) store history name uid run place said instance s any still = none_of_any (pins_instance instance) (own_events place run) (ops_unbegun t.stage run place said s.at) any
 fetch_holds (task.Counts t) store history name uid run place said instance s any still = none_of_any (pins_instance instance) (own_events place run) s.at.0 any
-fetch_holds (task.Make t) store history name uid run place said instance s any still = absurd (let k : request.Fetch name uid ≡ request.Make t.name = s.is_of in cc k)
-fetch_holds (task.Copy t) store history name uid run place said instance s any still = absurd (let k : request.Fetch name uid ≡ request.Copy t.name t.uid t.target = s.is_of in cc k)
-fetch_holds (task.Move t) store history name uid run place said instance s any still = absurd (let k : request.Fetch name uid ≡ request.Move t.name t.uid t.target = s.is_of in cc k)
-fetch_holds (task.Expunge t) store history name uid run place said instance s any still = absurd (let k : request.Fetch name uid ≡ request.Expunge t.name t.uid = s.is_of in cc k)
 fetch_holds (task.Deliver t) store history name uid run place said instance s any still = absurd s.is_of
-fetch_holds (task.Resync t) store history name uid run place said instance s any still = absurd (let k : request.Fetch name uid ≡ request.Resync = s.is_of in cc k)
-fetch_holds (task.Purge t) store history name uid run place said instance s any still = absurd (let k : request.Fetch name uid ≡ request.Purge = s.is_of in cc k)
-fetch_holds (task.Delete t) store history name uid run place said instance s any still = absurd (let k : request.Fetch name uid ≡ request.Delete t.name = s.is_of in cc k)
-fetch_holds (task.Rename t) store history name uid run place said instance s any still = absurd (let k : request.Fetch name uid ≡ request.Rename t.name t.target = s.is_of in cc k)
+fetch_holds t store history name uid run place said instance s any still = absurd (cc s.is_of)
 
 -- ---- each kind
-
-make_unheld : (now : MakeStage) (id : InstId) → make_claims now (Held id) ≡ 0
-make_unheld make_stage.First id = refl
-make_unheld (make_stage.Naming number) id = refl
 
 deliver_told : {D : Type 0} → (t : SaveValue) (store : StoreValue D) (history : Option History) (asked : Request) (run : Run) (place : ℕ) (said : List Reply) (instance : InstRow) → StandsTask (task.Deliver t) store history asked run place said → IsReadyTask (task.Deliver t) store history → knows_instance store instance ≡ true
     → 1 ≤ save_claims t.stage (Held instance.id) → UsesInstance instance (own_events place run)
@@ -340,13 +277,6 @@ pub held_told : {D : Type 0} → (t : Task) (store : StoreValue D) (history : Op
     → UsesInstance instance (own_events place run)
 held_told (task.Deliver t) store history asked run place said instance s ready knows some = deliver_told t store history asked run place said instance s ready knows some
 held_told (task.Fetch t) store history asked run place said instance s ready knows some = fetch_told t.stage store history run place said instance s.at ready knows some
-held_told (task.Ops t) store history asked run place said instance s ready knows some = none_held 0 refl some
-held_told (task.Counts t) store history asked run place said instance s ready knows some = none_held 0 refl some
-held_told (task.Make t) store history asked run place said instance s ready knows some = none_held (make_claims t.stage (Held instance.id)) (make_unheld t.stage instance.id) some
-held_told (task.Copy t) store history asked run place said instance s ready knows some = none_held 0 refl some
-held_told (task.Move t) store history asked run place said instance s ready knows some = none_held 0 refl some
-held_told (task.Expunge t) store history asked run place said instance s ready knows some = none_held 0 refl some
-held_told (task.Resync t) store history asked run place said instance s ready knows some = none_held 0 refl some
-held_told (task.Delete t) store history asked run place said instance s ready knows some = none_held 0 refl some
-held_told (task.Rename t) store history asked run place said instance s ready knows some = none_held 0 refl some
+held_told (task.Make t) store history asked run place said instance s ready knows some = none_held (make_claims t.stage (Held instance.id)) (make_holds t.stage instance.id) some
 held_told (task.Purge t) store history asked run place said instance s ready knows some = none_held (purge_claims t.stage (Held instance.id)) (purge_holds t.stage instance.id) some
+held_told t store history asked run place said instance s ready knows some = none_held 0 refl some

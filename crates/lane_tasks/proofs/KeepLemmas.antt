@@ -74,6 +74,16 @@ syncs_idle (Some h) (Some g) idle = (λ number. inl (ap (λ (disk : DiskState). 
 
 -- ---- a store in which nothing happened
 
+idle_disk : {D : Type 0} → (history : D → Option History) (old new : StoreValue D) → new.disk ≡ old.disk → IsIdle (history old.disk) (history new.disk)
+idle_disk history old new same = subst (λ (d : _). IsIdle (history old.disk) (history d)) (sym same) (idle-begins (history old.disk))
+
+idle_same : {D : Type 0} → (history : D → Option History) (old new : StoreValue D) → new ≡ old → IsIdle (history old.disk) (history new.disk)
+idle_same history old new same = idle_disk history old new (ap (λ (s : StoreValue _). s.disk) same)
+
+told_so : (a : Progress) (given : Reply) → ended_by a ≡ Some given → a ≡ progress.Done given
+told_so progress.More given e = absurd (let n : None ≡ Some given = e in cc n)
+told_so (progress.Done other) given e = (let n : Some other ≡ Some given = e in let z : other ≡ given = cc n in ap progress.Done z)
+
 abbrev Same : {D : Type 0} → (D → Option History) → (D → Faults) → Task → Task → StoreValue D → StoreValue D → Option Reply → Type 0
 Same history faults t next old new ended = TaskKeeps t next old new (history old.disk) (history new.disk) (faults old.disk) (faults new.disk) ended
 
@@ -125,13 +135,13 @@ keeps_by history faults t next Rest now then old new answer kind dooms files k r
   tells = tells;
   undoomed = undoomed_rest t next old new dooms (λ was. ap (λ (s : StoreValue _). s.stopped) (still was) ∙ was) files;
   idle = λ r none. (
-    idle_same (reads r),
-    subst (λ (d : _). (faults d).changes ≡ (faults old.disk).changes) (sym (disk_same (reads r))) refl,
+    idle_same history old new (reads r),
+    ap (λ (s : StoreValue _). (faults s.disk).changes) (reads r),
     ap (λ (s : StoreValue _). s.stopped) (reads r),
   );
-  still = λ stopped. (idle_same (still stopped), subst (λ (d : _). (faults d).changes ≡ (faults old.disk).changes) (sym (disk_same (still stopped))) refl);
-  same = idle_disk;
-  refused = λ why begun e step. idle_same (by_stop why begun (answered answer why e) step old.stopped refl);
+  still = λ stopped. (idle_same history old new (still stopped), ap (λ (s : StoreValue _). (faults s.disk).changes) (still stopped));
+  same = idle_disk history old new;
+  refused = λ why begun e step. idle_same history old new (by_stop why begun (told_so answer (reply.Refused why) e) step old.stopped refl);
   left = λ runs. writes (k.mail.left (runs ∙ sym (ran_before old.stopped new.stopped (λ was. ap (λ (s : StoreValue _). s.stopped) (still was) ∙ was) runs)));
   fetches = fetches;
 }
@@ -139,29 +149,16 @@ keeps_by history faults t next Rest now then old new answer kind dooms files k r
     still : old.stopped ≡ true → new ≡ old
     still was = (k.still was).0
 
-    disk_same : new ≡ old → new.disk ≡ old.disk
-    disk_same same = ap (λ (s : StoreValue _). s.disk) same
-
-    idle_disk : new.disk ≡ old.disk → IsIdle (history old.disk) (history new.disk)
-    idle_disk same = subst (λ (d : _). IsIdle (history old.disk) (history d)) (sym same) (idle-begins (history old.disk))
-
-    idle_same : new ≡ old → IsIdle (history old.disk) (history new.disk)
-    idle_same same = idle_disk (disk_same same)
-
-    answered : (a : Progress) (why : Refusal) → ended_by a ≡ Some (reply.Refused why) → a ≡ progress.Done (reply.Refused why)
-    answered progress.More why e = absurd (let n : None ≡ Some (reply.Refused why) = e in cc n)
-    answered (progress.Done given) why e = (let n : Some given ≡ Some (reply.Refused why) = e in let z : given ≡ reply.Refused why = cc n in ap progress.Done z)
-
     by_stop : (why : Refusal) → IsAtStart t → answer ≡ progress.Done (reply.Refused why) → is_step why ≡ true → (b : Bool) → old.stopped ≡ b → new ≡ old
     by_stop why begun e step true was = still was
     by_stop why begun e step false ran = refused why begun ran e step
 
     unread : (b : Bool) → old.stopped ≡ b → (faults new.disk).reads ≡ (faults old.disk).reads
-    unread true was = subst (λ (d : _). (faults d).reads ≡ (faults old.disk).reads) (sym (disk_same (still was))) refl
+    unread true was = ap (λ (s : StoreValue _). (faults s.disk).reads) (still was)
     unread false ran = (k.fault ran).reads
 
     more : (b : Bool) → old.stopped ≡ b → (faults old.disk).changes ≤ (faults new.disk).changes
-    more true was = subst (λ (d : _). (faults old.disk).changes ≤ (faults d).changes) (sym (disk_same (still was))) (omega arith)
+    more true was = let same = ap (λ (s : StoreValue _). (faults s.disk).changes) (still was) in omega (arith, same)
     more false ran = (k.fault ran).changes
 
 -- ---- of a fetch
@@ -270,7 +267,7 @@ keeps_fetching history faults t next old new answer request alone =
       );
       idle = λ reads none. k.idle none;
       still = k.still;
-      same = λ back. subst (λ (d : _). IsIdle (history old.disk) (history d)) (sym back) (idle-begins (history old.disk));
+      same = idle_disk history old new;
       refused = λ why begun e step. (k.idle (subst RemovesNothing (sym begun) tt)).0;
       left = λ runs none. syncs_idle (history old.disk) (history new.disk) (k.idle none).0;
       fetches = subst (λ (a : Progress). FetchesAlone t.name t.uid.0 t.stage next.stage next.did a old new (history old.disk) (history new.disk) (faults old.disk) (faults new.disk)) (sym (progress_back answer)) alone;
@@ -300,12 +297,6 @@ pub keeps_saving : {D : Type 0} → (history : D → Option History) (faults : D
     → (old.stopped ≡ false → Saves t.stage next.stage t.name t.time t.size answer next.did old new (history old.disk) (history new.disk) (faults old.disk) (faults new.disk)) → Same history faults (task.Deliver t) (task.Deliver next) old new (ended_by answer)
 keeps_saving history faults t next old new answer request ends saves = by_run old.stopped refl
   where
-    idle_disk : new.disk ≡ old.disk → IsIdle (history old.disk) (history new.disk)
-    idle_disk same = subst (λ (d : _). IsIdle (history old.disk) (history d)) (sym same) (idle-begins (history old.disk))
-
-    idle_same : new ≡ old → IsIdle (history old.disk) (history new.disk)
-    idle_same same = idle_disk (ap (λ (s : StoreValue _). s.disk) same)
-
     saving_refused : (prepared : Prepared) (now later : SaveStage) (a : Progress) (why : Refusal) → now ≡ save_stage.First prepared → ended_by a ≡ Some (reply.Refused why) → SaveEffects now later t.name t.time t.size a old new → new ≡ old
     saving_refused prepared now later a why is e effects = first_refused later a e (subst (λ (k : SaveStage). SaveEffects k later t.name t.time t.size a old new) is effects)
       where
@@ -331,8 +322,8 @@ keeps_saving history faults t next old new answer request ends saves = by_run ol
           undoomed = undoomed_by (task.Deliver t) (task.Deliver next) old new (λ none. none) (λ runs. r) ends.doomed;
           idle = λ reads none. absurd reads;
           still = λ was. absurd (let k : true ≡ false = sym was ∙ r in cc k);
-          same = idle_disk;
-          refused = λ why begun e step. idle_same (saving_refused begun.0 t.stage next.stage answer why begun.1 e s.effects);
+          same = idle_disk history old new;
+          refused = λ why begun e step. idle_same history old new (saving_refused begun.0 t.stage next.stage answer why begun.1 e s.effects);
           left = λ runs. s.mail runs;
           fetches = tt;
         }
@@ -342,10 +333,6 @@ keeps_saving history faults t next old new answer request ends saves = by_run ol
     by_run false r = ran r (saves r)
 
 -- ---- of a resync
-
-told_so : (a : Progress) (given : Reply) → ended_by a ≡ Some given → a ≡ progress.Done given
-told_so progress.More given e = absurd (let n : None ≡ Some given = e in cc n)
-told_so (progress.Done other) given e = (let n : Some other ≡ Some given = e in let z : other ≡ given = cc n in ap progress.Done z)
 
 -- a first event that is refused changes nothing
 resync_refused : {D : Type 0} → (now next : ResyncAt) (how : Did) (old new : StoreValue D) (before after : Option History) (began then : Faults) (answer : Progress) (why : Refusal) → now ≡ ToList → answer ≡ progress.Done (reply.Refused why)
@@ -378,9 +365,9 @@ keeps_resyncing history faults t next old new answer on exact k = record {
   );
   undoomed = undoomed_rest (task.Resync t) (task.Resync next) old new (λ none. none) (λ was. ap (λ (s : StoreValue _). s.stopped) (still was) ∙ was) (rest_files old new k.rest);
   idle = λ reads none. absurd reads;
-  still = λ stopped. (idle_same (still stopped), subst (λ (d : _). (faults d).changes ≡ (faults old.disk).changes) (sym (disk_same (still stopped))) refl);
-  same = idle_disk;
-  refused = λ why begun e step. idle_same (by_stop why begun (told_so answer (reply.Refused why) e) old.stopped refl);
+  still = λ stopped. (idle_same history old new (still stopped), ap (λ (s : StoreValue _). (faults s.disk).changes) (still stopped));
+  same = idle_disk history old new;
+  refused = λ why begun e step. idle_same history old new (by_stop why begun (told_so answer (reply.Refused why) e) old.stopped refl);
   left = λ runs. k.mail.left (runs ∙ sym (ran_before old.stopped new.stopped (λ was. ap (λ (s : StoreValue _). s.stopped) (still was) ∙ was) runs));
   fetches = tt;
 }
@@ -388,20 +375,8 @@ keeps_resyncing history faults t next old new answer on exact k = record {
     still : old.stopped ≡ true → new ≡ old
     still was = (k.still was).0
 
-    disk_same : new ≡ old → new.disk ≡ old.disk
-    disk_same same = ap (λ (s : StoreValue _). s.disk) same
-
-    idle_disk : new.disk ≡ old.disk → IsIdle (history old.disk) (history new.disk)
-    idle_disk same = subst (λ (d : _). IsIdle (history old.disk) (history d)) (sym same) (idle-begins (history old.disk))
-
-    idle_same : new ≡ old → IsIdle (history old.disk) (history new.disk)
-    idle_same same = idle_disk (disk_same same)
-
-    same_reads : new ≡ old → (faults new.disk).reads ≡ (faults old.disk).reads
-    same_reads same = subst (λ (d : _). (faults d).reads ≡ (faults old.disk).reads) (sym (disk_same same)) refl
-
     by_calm : (answer ≡ progress.Done (reply.Refused refusal.ReadFault) → ⊥) → (b : Bool) → old.stopped ≡ b → (faults new.disk).reads ≡ (faults old.disk).reads
-    by_calm unread true was = same_reads (still was)
+    by_calm unread true was = ap (λ (s : StoreValue _). (faults s.disk).reads) (still was)
     by_calm unread false ran = by_end new.stopped refl
       where
         by_end : (b : Bool) → new.stopped ≡ b → (faults new.disk).reads ≡ (faults old.disk).reads
@@ -430,15 +405,12 @@ keeps_purging history faults t next old new ended grows mail reads calm changes 
   tells = tells;
   undoomed = λ none. absurd none;
   idle = λ reads. absurd reads;
-  still = λ was. (idle_disk (ap (λ (s : StoreValue _). s.disk) (still was)), ap (λ (s : StoreValue _). (faults s.disk).changes) (still was));
-  same = idle_disk;
+  still = λ was. (idle_same history old new (still was), ap (λ (s : StoreValue _). (faults s.disk).changes) (still was));
+  same = idle_disk history old new;
   refused = λ why begun. absurd begun;
   left = λ runs. tt;
   fetches = tt;
 }
-  where
-    idle_disk : new.disk ≡ old.disk → IsIdle (history old.disk) (history new.disk)
-    idle_disk same = subst (λ (d : _). IsIdle (history old.disk) (history d)) (sym same) (idle-begins (history old.disk))
 
 -- ---- a first event that is refused
 

@@ -1,5 +1,5 @@
 -- The record that a delivery has stored names the instances that its events found.
-use Rattle.lane_tasks.proofs.Common.{◌≡◌, ◌==◌, ℕ, List, [], ◌∷◌, ◌++◌, Option, Some, refl, sym, ◌∙◌, ap, subst, arith, ◌≢◌, flat_map, eq-eqb, ne_eqb, History, InstRow, Progress, Refusal, Reply, MapMeaning, Run, RunEvent, and_then, own_events, own_more, own_other, StoreValue, one_if, save_claims}
+use Rattle.lane_tasks.proofs.Common.{◌≡◌, ◌==◌, ℕ, List, [], ◌∷◌, ◌++◌, Option, Some, refl, sym, ◌∙◌, ap, arith, ◌≢◌, flat_map, eq-eqb, ne_eqb, History, InstRow, Progress, Refusal, Reply, Run, RunEvent, and_then, own_events, own_more, own_other, StoreValue, one_if, save_claims}
 use Rattle.lane_tasks.proofs.Common.{SaveEffects, IsAtSave, SaveStage, HasNamedFound}
 use Rattle.std.proofs.Common.{◌≤◌, append_assoc}
 use Rattle.std.proofs.lemmas.Grind.{flat_map-append}
@@ -7,10 +7,8 @@ use Rattle.std.proofs.lemmas.List.{append-nil}
 use Rattle.std.proofs.lemmas.List.Concat.{flat_map-cons}
 use Rattle.mdbox_base.specs.declared.ids.MapUid.{MapUid}
 use Rattle.mdbox_base.specs.declared.progress.Progress.TheVariants as progress
-use Rattle.model_meaning.specs.MapFits.{HasRecord}
 use Rattle.model_meaning.specs.MapMeaning.{MapRecord, record_at}
 use Rattle.journal.specs.Events.{DidNothing, instances_found}
-use Rattle.task_claims.specs.Claims.{Due}
 use Rattle.task_claims.specs.Stable.{Beside}
 use Rattle.task_claims.proofs.LeftLemmas.{record_left}
 use Rattle.mail_save.specs.SaveEffects.{saved_row}
@@ -77,12 +75,7 @@ names_beside (save_stage.Adding added room) old new before after run place event
 names_beside (save_stage.GivingBack uid why room) old new before after run place event b other named =
     let k = record_left (save_claims (save_stage.GivingBack uid why room)) old new before after uid.0 named.0 b (own_one uid.0) named.1 in
     (k.now, k.there, ap (λ (row : MapRecord). row.instances) k.is_same ∙ (named.2 ∙ sym (found_other place run event other)))
-names_beside (save_stage.First prepared) old new before after run place event b other named = tt
-names_beside (save_stage.Attaching parts attaching) old new before after run place event b other named = tt
-names_beside (save_stage.Taking parts) old new before after run place event b other named = tt
-names_beside (save_stage.Placing parts file) old new before after run place event b other named = tt
-names_beside (save_stage.Storing at rows room) old new before after run place event b other named = tt
-names_beside save_stage.Ended old new before after run place event b other named = tt
+names_beside now old new before after run place event b other named = tt
 
 -- ---- an event of its own
 

@@ -1,8 +1,7 @@
 -- The files that the events of a purge took, and the targets that they drew, are apart.
-use Rattle.lane_tasks.proofs.Common.{◌≡◌, ◌==◌, ◌<◌, ◌+◌, ℕ, suc, Bool, true, false, List, [], ◌∷◌, map, Option, Some, None, refl, sym, ◌∙◌, ap, subst, arith, inl, inr, ◌≤◌, ◌≢◌, ◌⊎◌, All, flat_map, list_any, eq-eqb, ne_eqb, All-cons, All-head, All-nil, All-tail, Refusal, Lists, MapMeaning}
+use Rattle.lane_tasks.proofs.Common.{◌≡◌, ◌==◌, ◌<◌, ◌+◌, ℕ, Bool, true, false, List, [], ◌∷◌, map, Option, Some, None, refl, sym, ◌∙◌, ap, subst, arith, inl, inr, ◌≤◌, ◌≢◌, ◌⊎◌, All, flat_map, list_any, eq-eqb, ne_eqb, All-cons, All-head, All-nil, All-tail, Refusal, Lists, MapMeaning}
 use Rattle.lane_tasks.proofs.Common.{EventPart, First, Run, RunEvent, TakenFile, and_then, own_events, Around, is_done, is_storing, own_more, own_other}
-use Rattle.std.proofs.Common.{zero}
-use Rattle.std.specs.Prelude.{◌++◌, AllPairs, find, if◌then◌else◌, is_some, nat_lt, not}
+use Rattle.std.specs.Prelude.{◌++◌, AllPairs, if◌then◌else◌, is_some, nat_lt, not}
 use Rattle.std.specs.Option.{option_map, option_or}
 use Rattle.std.proofs.lemmas.Grind.{flat_map-append}
 use Rattle.std.proofs.lemmas.List.{append-nil}
@@ -10,8 +9,8 @@ use Rattle.std.proofs.lemmas.List.Elements.{All-push, All-weaker}
 use Rattle.std.proofs.lemmas.List.Kept.{AllPairs-cons}
 use Rattle.mdbox_base.specs.declared.requests.Request.TheVariants as request
 use Rattle.model_octets.proofs.PairLemmas.{found_among, pairs_nil}
-use Rattle.list_machine.specs.Run.{Compares, CopiesMessage, GivesBack, Last, MakesTarget, PlacesInstance, PlacesMessage, ReadsFile, ReadsPiece, RemovesFile, RemovesInstance, SecondHalf, StartsOver, StoresRecord, Switches, TakesFile, Unpins, drawn_of, first_in, is_copied_from, map_of}
-use Rattle.journal.specs.Events.{DidPurge, IsEvent, TellsFiles, behind_event, behind_purge, copies_left, doomed_last, file_to_remove, next_part, next_taken, purge_copies, purge_goes_on, targets_of, was_pinned}
+use Rattle.list_machine.specs.Run.{CopiesMessage, Last, MakesTarget, RemovesFile, RemovesInstance, StoresRecord, Switches, drawn_of, first_in, is_copied_from, map_of}
+use Rattle.journal.specs.Events.{DidPurge, IsEvent, TellsFiles, behind_event, behind_purge, doomed_last, file_to_remove, next_part, next_taken, purge_copies, purge_goes_on, targets_of, was_pinned}
 use Rattle.journal.specs.Found.{AgreesWithRun, FindsFiles, IsFreeFile, PurgeFinds, has_looked}
 use Rattle.lane_tasks.specs.Tasks.{DoomsWithin, IsTakenWithin, TookApart}
 
@@ -79,13 +78,12 @@ targets_rise m drawn (t ∷ files) told = by_test (list_any (is_copied_from t.fi
           AllPairs-cons (λ (a b : TakenFile). (a.target ≡ 0) ⊎ (a.target ≢ b.target)) t files (All-weaker (λ (b : TakenFile). (b.target ≡ 0) ⊎ (drawn < b.target)) (λ (b : TakenFile). (t.target ≡ 0) ⊎ (t.target ≢ b.target)) (λ b either. inl here) files rest.0) rest.1,
         )
 
-all_of_map : (P : ℕ → Type 0) (files : List TakenFile) → All P (map (λ t. t.file) files) → All (λ t. P t.file) files
-all_of_map P [] all = All-nil (λ (t : TakenFile). P t.file)
-all_of_map P (t ∷ files) all = All-cons (λ (t : TakenFile). P t.file) t files (All-head P t.file (map (λ t. t.file) files) all) (all_of_map P files (All-tail P t.file (map (λ t. t.file) files) all))
+pub all_of_map : {X Y : Type 0} → (P : Y → Type 0) (f : X → Y) (xs : List X) → All P (map f xs) → All (λ x. P (f x)) xs
+all_of_map P f [] all = All-nil (λ x. P (f x))
+all_of_map P f (x ∷ xs) all = All-cons (λ x. P (f x)) x xs (All-head P (f x) (map f xs) all) (all_of_map P f xs (All-tail P (f x) (map f xs) all))
 
 both_hold : (P Q : TakenFile → Type 0) (files : List TakenFile) → All P files → All Q files → All (λ t. P t × Q t) files
-both_hold P Q [] p q = All-nil (λ (t : TakenFile). P t × Q t)
-both_hold P Q (t ∷ files) p q = All-cons (λ (t : TakenFile). P t × Q t) t files (All-head P t files p, All-head Q t files q) (both_hold P Q files (All-tail P t files p) (All-tail Q t files q))
+both_hold P Q files p q k d less = (p k d less, q k d less)
 
 apart_begun : (event : RunEvent) (m : MapMeaning) (most : ℕ) → map (λ t. t.target) event.files ≡ targets_of m most event.files → All (λ t. t.file ≤ most) event.files → is_storing event.part ≡ false → event.doomed ≡ [] → event.removed ≡ [] → TookApart (event ∷ [])
 apart_begun event m most told within part doomed removed =
@@ -208,5 +206,5 @@ apart_on around behind run lists event place at is unrefused agrees drawn took =
     within first =
         let told : map (λ t. t.file) event.files ≡ around.files = subst (λ (part : EventPart). TellsFiles around event part) first is.finds in
         let finds : FindsFiles run around.files = subst (λ (part : EventPart). PurgeFinds around run part) first (agrees (ap has_looked unrefused)) in
-        all_of_map (λ file. file ≤ (drawn_of run).file) event.files
+        all_of_map (λ file. file ≤ (drawn_of run).file) (λ (t : TakenFile). t.file) event.files
         (subst (λ (files : List ℕ). All (λ file. file ≤ (drawn_of run).file) files) (sym told) (All-weaker (IsFreeFile run) (λ file. file ≤ (drawn_of run).file) drawn around.files finds.free))

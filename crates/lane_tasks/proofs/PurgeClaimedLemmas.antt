@@ -1,48 +1,23 @@
 -- A storage file that a purge claims to have taken, or drew as a target, is one that its events took and haven't given back.
-use Rattle.lane_tasks.proofs.Common.{◌≡◌, ◌==◌, ◌<◌, ◌+◌, ℕ, suc, Bool, true, false, cond, List, [], ◌∷◌, map, Option, Some, None, refl, sym, ◌∙◌, ap, subst, arith, inl, inr, ◌≤◌, ◌≢◌, ◌⊎◌, ◌||◌, ◌&&◌, All, drop, flat_map, is_none, list_any, option_map_or, common_steps, All-cons, All-head, All-nil}
-use Rattle.lane_tasks.proofs.Common.{All-tail, list_any-append, sum_by-cons, History, FileNo, Refusal, Reply, Run, RunEvent, TakenFile, is_one_of, own_events, is_done, gave_back, is_storing, took_file, StoreValue, Emptied, Taken, claims_of_sources, claims_of_switched, claims_of_target, purge_claims}
+use Rattle.lane_tasks.proofs.Common.{◌≡◌, ◌==◌, ◌<◌, ◌+◌, ℕ, suc, Bool, true, false, List, [], ◌∷◌, map, Option, Some, None, refl, sym, ◌∙◌, ap, subst, arith, inl, inr, ◌≤◌, ◌≢◌, ◌⊎◌, ◌||◌, All, drop, flat_map, is_none, list_any, option_map_or, All-cons, All-head, All-nil}
+use Rattle.lane_tasks.proofs.Common.{All-tail, list_any-append, sum_by-cons, FileNo, Refusal, Reply, Run, RunEvent, TakenFile, is_one_of, own_events, is_done, gave_back, is_storing, took_file, StoreValue, Emptied, Taken, claims_of_sources, claims_of_switched, claims_of_target, purge_claims}
 use Rattle.lane_tasks.proofs.Common.{sources_left, PurgeValue, IsAtPurgeStage, PurgeStage, Source}
 use Rattle.std.specs.Prelude.{◌++◌, AllPairs, Contains}
-use Rattle.std.specs.Option.{option_or}
-use Rattle.std.proofs.lemmas.List.Elements.{All-contains}
+use Rattle.std.specs.Option.{option_or, option_map}
+use Rattle.std.proofs.lemmas.List.Elements.{All-contains, All-weaker, All-map, All-append}
+use Rattle.std.proofs.lemmas.Bool.{or_from, and_left, and_right, ne_eqb, eq-eqb, or_cases, or_parts, and_from, eqb-true, or_left, or_right}
+use Rattle.std.proofs.lemmas.Map.Keys.{any_passes_from_place}
+use Rattle.std.proofs.lemmas.Option.{slice_get-map, slice_get-get_or}
+use Rattle.std.proofs.lemmas.List.Folds.{list_any_none}
 use Rattle.model_octets.proofs.PairLemmas.{pairs_head, pairs_tail}
 use Rattle.journal.specs.Events.{last_refusal}
 use Rattle.purge_task.specs.Stages.{HaveTaken, IsAtSwitched, told_taken}
 use Rattle.purge_task.specs.declared.task.PurgeStage.TheVariants as stage
+use Rattle.lane_tasks.proofs.PurgeApartLemmas.{all_of_map}
 use Rattle.lane_tasks.specs.Tasks.{DoomsWithin, IsTakenWithin, TookApart}
-use Rattle.lane_tasks.proofs.PurgeTakenLemmas.{and_both, counted, is_gone, is_of, is_target_done, or_both, same}
+use Rattle.lane_tasks.proofs.PurgeTakenLemmas.{counted, is_gone, is_of, is_target_done}
 
 -- ---- tests
-
-either_none : (a b : Bool) → a ≡ false → b ≡ false → (a || b) ≡ false
-either_none true b x y = absurd (let z : true ≡ false = x in cc z)
-either_none false b x y = y
-
-first_none : (a b : Bool) → a ≡ false → (a && b) ≡ false
-first_none true b x = absurd (let z : true ≡ false = x in cc z)
-first_none false b x = refl
-
-second_none : (a b : Bool) → b ≡ false → (a && b) ≡ false
-second_none true b y = y
-second_none false b y = refl
-
-differs : (a b : ℕ) → a ≢ b → (a == b) ≡ false
-differs a b apart = by_test (a == b) refl
-  where
-    by_test : (t : Bool) → (a == b) ≡ t → t ≡ false
-    by_test true e = absurd (apart (same a b e))
-    by_test false e = refl
-
-equal : (a b : ℕ) → a ≡ b → (a == b) ≡ true
-equal a b e = grind (arith, common_steps, e)
-
-or_of : (a b : Bool) → (a || b) ≡ true → (a ≡ true) ⊎ (b ≡ true)
-or_of true b e = inl refl
-or_of false b e = inr e
-
-or_none : (a b : Bool) → (a || b) ≡ false → (a ≡ false) × (b ≡ false)
-or_none true b e = absurd (let z : true ≡ false = e in cc z)
-or_none false b e = (refl, e)
 
 none_refused : (a b : Option Refusal) → option_or a b ≡ None → (a ≡ None) × (b ≡ None)
 none_refused None b e = (refl, e)
@@ -84,41 +59,25 @@ taken_passes file left some = counted_passes (is_target file) (λ s. counted (is
 
 target_told : (file : ℕ) (o : Option FileNo) → option_map_or (λ (t : FileNo). t.0 == file) o false ≡ true → option_map_or (λ (t : FileNo). t.0) o 0 ≡ file
 target_told file None e = absurd (let z : false ≡ true = e in cc z)
-target_told file (Some target) e = same target.0 file e
+target_told file (Some target) e = eqb-true target.0 file e
 
 -- ---- it was taken
 
-told_among : (q : TakenFile → Bool) (left : List Source) (s : Source) → q (told_taken s) ≡ true → All (λ x. x ≡ s → list_any q (map told_taken left) ≡ true) left → Contains left s → list_any q (map told_taken left) ≡ true
-told_among q left s passes all c = All-contains (λ x. x ≡ s → list_any q (map told_taken left) ≡ true) left s all c refl
-
-each_tells : (q : TakenFile → Bool) (left : List Source) (s : Source) → q (told_taken s) ≡ true → All (λ x. x ≡ s → list_any q (map told_taken left) ≡ true) left
-each_tells q [] s passes = All-nil (λ x. x ≡ s → list_any q (map told_taken []) ≡ true)
-each_tells q (x ∷ left) s passes =
-    All-cons (λ y. y ≡ s → list_any q (map told_taken (x ∷ left)) ≡ true) x left
-    (λ e. or_both (q (told_taken x)) (list_any q (map told_taken left)) (inl (ap (λ (y : Source). q (told_taken y)) e ∙ passes)))
-    (later left (each_tells q left s passes))
-  where
-    later : (rest : List Source) → All (λ y. y ≡ s → list_any q (map told_taken left) ≡ true) rest → All (λ y. y ≡ s → list_any q (map told_taken (x ∷ left)) ≡ true) rest
-    later rest all i d within e = or_both (q (told_taken x)) (list_any q (map told_taken left)) (inr (all i d within e))
-
 told_any : (q : TakenFile → Bool) (left : List Source) (s : Source) → q (told_taken s) ≡ true → Contains left s → list_any q (map told_taken left) ≡ true
-told_any q left s passes c = told_among q left s passes (each_tells q left s passes) c
+told_any q left s passes c = any_passes_from_place q (map told_taken left) c.0 (told_taken s) (slice_get-map told_taken left c.0 ∙ ap (option_map told_taken) (slice_get-get_or left c.0 s c.1 ∙ ap (λ (x : Source). Some x) c.2)) passes
 
 any_behind : (q : TakenFile → Bool) (done left : List Source) → list_any q (map told_taken left) ≡ true → list_any q (map told_taken (done ++ left)) ≡ true
 any_behind q [] left is = is
-any_behind q (d ∷ done) left is = or_both (q (told_taken d)) (list_any q (map told_taken (done ++ left))) (inr (any_behind q done left is))
+any_behind q (d ∷ done) left is = or_right (q (told_taken d)) _ (any_behind q done left is)
 
 event_took : (file : ℕ) (own : List RunEvent) → last_refusal own ≡ None → list_any (is_of file) (flat_map (λ (e : RunEvent). e.files) own) ≡ true → list_any (took_file file) own ≡ true
 event_took file [] unrefused is = is
 event_took file (x ∷ own) unrefused is =
     let both = none_refused (last_refusal own) x.refused unrefused in
-    or_both (took_file file x) (list_any (took_file file) own)
-    (by_which both.1 (or_of (list_any (is_of file) x.files) (list_any (is_of file) (flat_map (λ (e : RunEvent). e.files) own)) (sym (list_any-append (is_of file) x.files (flat_map (λ (e : RunEvent). e.files) own)) ∙ is)) (λ later. event_took file own both.0 later))
-  where
-    by_which : x.refused ≡ None → (list_any (is_of file) x.files ≡ true) ⊎ (list_any (is_of file) (flat_map (λ (e : RunEvent). e.files) own) ≡ true) → (list_any (is_of file) (flat_map (λ (e : RunEvent). e.files) own) ≡ true → list_any (took_file file) own ≡ true)
-        → (took_file file x ≡ true) ⊎ (list_any (took_file file) own ≡ true)
-    by_which none (inl here) rest = inl (and_both (is_none x.refused) (list_any (is_of file) x.files) (ap is_none none) here)
-    by_which none (inr later) rest = inr (rest later)
+    elim (or_cases (list_any (is_of file) x.files) (list_any (is_of file) (flat_map (λ (e : RunEvent). e.files) own)) (sym (list_any-append (is_of file) x.files (flat_map (λ (e : RunEvent). e.files) own)) ∙ is)) [
+      | inl here ↦ or_left (took_file file x) _ (and_from (is_none x.refused) (list_any (is_of file) x.files) (ap is_none both.1) here)
+      | inr later ↦ or_right (took_file file x) _ (event_took file own both.0 later)
+    ]
 
 -- ---- it wasn't given back
 
@@ -126,28 +85,19 @@ unended : (most : ℕ) (file : ℕ) (own : List RunEvent) → All (DoomsWithin m
 unended most file [] all none = refl
 unended most file (x ∷ own) all none =
     let here = All-head (DoomsWithin most) x own all in
-    let parts = or_none (is_gone file x) (list_any (is_gone file) own) none in
-    either_none (is_storing x.part || is_gone file x) (list_any (λ (e : RunEvent). is_storing e.part || is_gone file e) own) (either_none (is_storing x.part) (is_gone file x) here.0 parts.0) (unended most file own (All-tail (DoomsWithin most) x own all) parts.1)
+    let parts = or_parts (is_gone file x) (list_any (is_gone file) own) none in
+    or_from (is_storing x.part || is_gone file x) (list_any (λ (e : RunEvent). is_storing e.part || is_gone file e) own) (or_from (is_storing x.part) (is_gone file x) here.0 parts.0) (unended most file own (All-tail (DoomsWithin most) x own all) parts.1)
 
 none_above : (most file : ℕ) (files : List ℕ) → most < file → All (λ n. n ≤ most) files → is_one_of files file ≡ false
-none_above most file [] above all = refl
-none_above most file (f ∷ files) above all =
-    let here = All-head (λ (n : ℕ). n ≤ most) f files all in
-    either_none (f == file) (is_one_of files file) (differs f file (λ e. absurd (omega (arith, e, here, above)))) (none_above most file files above (All-tail (λ (n : ℕ). n ≤ most) f files all))
+none_above most file files above all = list_any_none (λ f. f == file) files (All-weaker (λ n. n ≤ most) (λ f. (f == file) ≡ false) (λ f within. ne_eqb f file (λ e. absurd (omega (arith, e, within, above)))) files all)
 
 none_gone_above : (most file : ℕ) (own : List RunEvent) → most < file → All (DoomsWithin most) own → list_any (is_gone file) own ≡ false
-none_gone_above most file [] above all = refl
-none_gone_above most file (x ∷ own) above all =
-    let here = All-head (DoomsWithin most) x own all in
-    either_none (is_gone file x) (list_any (is_gone file) own) (either_none (is_one_of x.doomed file) (is_one_of x.removed file) (none_above most file x.doomed above here.1) (none_above most file x.removed above here.2)) (none_gone_above most file own above (All-tail (DoomsWithin most) x own all))
-
-each_told : (P : TakenFile → Type 0) (left : List Source) → All P (map told_taken left) → All (λ x. P (told_taken x)) left
-each_told P [] all = All-nil (λ (x : Source). P (told_taken x))
-each_told P (x ∷ rest) all = All-cons (λ (x : Source). P (told_taken x)) x rest (All-head P (told_taken x) (map told_taken rest) all) (each_told P rest (All-tail P (told_taken x) (map told_taken rest) all))
+none_gone_above most file own above all = list_any_none (is_gone file) own (All-weaker (DoomsWithin most) (λ event. is_gone file event ≡ false)
+    (λ event here. or_from (is_one_of event.doomed file) (is_one_of event.removed file) (none_above most file event.doomed above here.1) (none_above most file event.removed above here.2)) own all)
 
 -- what holds of all that was taken holds of each that is left
 of_left : (P : TakenFile → Type 0) (done left : List Source) (s : Source) → All P (map told_taken (done ++ left)) → Contains left s → P (told_taken s)
-of_left P [] left s all c = All-contains (λ x. P (told_taken x)) left s (each_told P left all) c
+of_left P [] left s all c = All-contains (λ x. P (told_taken x)) left s (all_of_map P told_taken left all) c
 of_left P (d ∷ done) left s all c = of_left P done left s (All-tail P (told_taken d) (map told_taken (done ++ left)) all) c
 
 abbrev AreTargetsApart : TakenFile → TakenFile → Type 0
@@ -155,11 +105,7 @@ AreTargetsApart a b = (a.target ≡ 0) ⊎ (a.target ≢ b.target)
 
 -- a test that neither those that are done pass nor those that aren't
 none_passes : (q : TakenFile → Bool) (done left : List Source) → All (λ s. q (told_taken s) ≡ false) done → All (λ s. q (told_taken s) ≡ false) left → list_any q (map told_taken (done ++ left)) ≡ false
-none_passes q [] [] no_done no_left = refl
-none_passes q [] (s ∷ left) no_done no_left =
-    either_none (q (told_taken s)) (list_any q (map told_taken left)) (All-head (λ (s : Source). q (told_taken s) ≡ false) s left no_left) (none_passes q [] left no_done (All-tail (λ (s : Source). q (told_taken s) ≡ false) s left no_left))
-none_passes q (d ∷ done) left no_done no_left =
-    either_none (q (told_taken d)) (list_any q (map told_taken (done ++ left))) (All-head (λ (s : Source). q (told_taken s) ≡ false) d done no_done) (none_passes q done left (All-tail (λ (s : Source). q (told_taken s) ≡ false) d done no_done) no_left)
+none_passes q done left no_done no_left = list_any_none q (map told_taken (done ++ left)) (All-map (λ t. q t ≡ false) told_taken (done ++ left) (All-append (λ s. q (told_taken s) ≡ false) done left no_done no_left))
 
 -- a target of one that is done is neither a file that was taken, nor another's target
 source_apart : (most file : ℕ) (own : List RunEvent) (done left : List Source) → 1 ≤ file → file ≤ most → All (IsTakenWithin most) (map told_taken (done ++ left)) → All (λ d. is_target_done file own (told_taken d) ≡ false) done
@@ -168,8 +114,8 @@ source_apart most file own (d ∷ done) left some within all =
     All-cons (λ (d : Source). is_target_done file own (told_taken d) ≡ false) d done (by_target (All-head (IsTakenWithin most) (told_taken d) (map told_taken (done ++ left)) all).1) (source_apart most file own done left some within (All-tail (IsTakenWithin most) (told_taken d) (map told_taken (done ++ left)) all))
   where
     by_target : ((told_taken d).target ≡ 0) ⊎ (most < (told_taken d).target) → is_target_done file own (told_taken d) ≡ false
-    by_target (inl none) = first_none ((told_taken d).target == file) (is_done own (told_taken d)) (differs (told_taken d).target file (λ e. absurd (omega (arith, e, none, some))))
-    by_target (inr above) = first_none ((told_taken d).target == file) (is_done own (told_taken d)) (differs (told_taken d).target file (λ e. absurd (omega (arith, e, above, within))))
+    by_target (inl none) = and_left ((told_taken d).target == file) (is_done own (told_taken d)) (ne_eqb (told_taken d).target file (λ e. absurd (omega (arith, e, none, some))))
+    by_target (inr above) = and_left ((told_taken d).target == file) (is_done own (told_taken d)) (ne_eqb (told_taken d).target file (λ e. absurd (omega (arith, e, above, within))))
 
 target_apart : (file : ℕ) (own : List RunEvent) (done left : List Source) (s : Source) → 1 ≤ file → (told_taken s).target ≡ file → AllPairs AreTargetsApart (map told_taken (done ++ left)) → Contains left s → All (λ d. is_target_done file own (told_taken d) ≡ false) done
 target_apart file own [] left s some is pairs c = All-nil (λ (d : Source). is_target_done file own (told_taken d) ≡ false)
@@ -178,14 +124,11 @@ target_apart file own (d ∷ done) left s some is pairs c =
     (target_apart file own done left s some is (pairs_tail AreTargetsApart (told_taken d) (map told_taken (done ++ left)) pairs) c)
   where
     by_target : AreTargetsApart (told_taken d) (told_taken s) → is_target_done file own (told_taken d) ≡ false
-    by_target (inl none) = first_none ((told_taken d).target == file) (is_done own (told_taken d)) (differs (told_taken d).target file (λ e. absurd (omega (arith, e, none, some))))
-    by_target (inr apart) = first_none ((told_taken d).target == file) (is_done own (told_taken d)) (differs (told_taken d).target file (λ e. absurd (apart (e ∙ sym is))))
+    by_target (inl none) = and_left ((told_taken d).target == file) (is_done own (told_taken d)) (ne_eqb (told_taken d).target file (λ e. absurd (omega (arith, e, none, some))))
+    by_target (inr apart) = and_left ((told_taken d).target == file) (is_done own (told_taken d)) (ne_eqb (told_taken d).target file (λ e. absurd (apart (e ∙ sym is))))
 
 left_undone : (file : ℕ) (own : List RunEvent) (left : List Source) → All (λ s. is_done own (told_taken s) ≡ false) left → All (λ s. is_target_done file own (told_taken s) ≡ false) left
-left_undone file own [] undone = All-nil (λ (s : Source). is_target_done file own (told_taken s) ≡ false)
-left_undone file own (s ∷ left) undone =
-    All-cons (λ (s : Source). is_target_done file own (told_taken s) ≡ false) s left (second_none ((told_taken s).target == file) (is_done own (told_taken s)) (All-head (λ (s : Source). is_done own (told_taken s) ≡ false) s left undone))
-    (left_undone file own left (All-tail (λ (s : Source). is_done own (told_taken s) ≡ false) s left undone))
+left_undone file own = All-weaker (λ (s : Source). is_done own (told_taken s) ≡ false) (λ (s : Source). is_target_done file own (told_taken s) ≡ false) (λ s undone. and_right ((told_taken s).target == file) (is_done own (told_taken s)) undone)
 
 -- ---- both
 
@@ -195,18 +138,18 @@ HasFile file own = (list_any (took_file file) own ≡ true) × (gave_back file o
 has_file : (file : ℕ) (done left : List Source) (own : List RunEvent) (s : Source) → HaveTaken done left own → last_refusal own ≡ None → (took : TookApart own) → Contains left s → is_of file (told_taken s) ≡ true → list_any (is_gone file) own ≡ false → All (λ d. is_target_done file own (told_taken d) ≡ false) done → HasFile file own
 has_file file done left own s h unrefused took c is gone apart = (
   event_took file own unrefused (subst (λ (ts : List TakenFile). list_any (is_of file) ts ≡ true) (sym h.taken) (any_behind (is_of file) done left (told_any (is_of file) left s is c))),
-  either_none (list_any (λ (e : RunEvent). is_storing e.part || is_gone file e) own) (list_any (is_target_done file own) (flat_map (λ (e : RunEvent). e.files) own)) (unended took.most file own took.ended gone)
+  or_from (list_any (λ (e : RunEvent). is_storing e.part || is_gone file e) own) (list_any (is_target_done file own) (flat_map (λ (e : RunEvent). e.files) own)) (unended took.most file own took.ended gone)
       (subst (λ (ts : List TakenFile). list_any (is_target_done file own) ts ≡ false) (sym h.taken) (none_passes (is_target_done file own) done left apart (left_undone file own left h.left_are))),
 )
 
 own_has : (file : ℕ) (done left : List Source) (own : List RunEvent) → HaveTaken done left own → last_refusal own ≡ None → TookApart own → 1 ≤ file → (1 ≤ claims_of_sources left (Taken file)) ⊎ (1 ≤ claims_of_sources left (Emptied file)) → HasFile file own
 own_has file done left own h unrefused took some (inr emptied) =
     let p = emptied_passes file left emptied in
-    let at : p.source.file.0 ≡ file = same p.source.file.0 file p.passes in
+    let at : p.source.file.0 ≡ file = eqb-true p.source.file.0 file p.passes in
     let all = subst (λ (ts : List TakenFile). All (IsTakenWithin took.most) ts) h.taken took.files in
     let within : file ≤ took.most = subst (λ (n : ℕ). n ≤ took.most) at (of_left (IsTakenWithin took.most) done left p.source all p.among).0 in
     let gone : list_any (is_gone file) own ≡ false = subst (λ (n : ℕ). list_any (is_gone n) own ≡ false) at (All-contains (λ (s : Source). is_done own (told_taken s) ≡ false) left p.source h.left_are p.among) in
-    has_file file done left own p.source h unrefused took p.among (or_both (p.source.file.0 == file) ((told_taken p.source).target == file) (inl p.passes)) gone (source_apart took.most file own done left some within all)
+    has_file file done left own p.source h unrefused took p.among (or_left (p.source.file.0 == file) ((told_taken p.source).target == file) p.passes) gone (source_apart took.most file own done left some within all)
 own_has file done left own h unrefused took some (inl taken) =
     let p = taken_passes file left taken in
     let at : (told_taken p.source).target ≡ file = target_told file p.source.target p.passes in
@@ -218,7 +161,7 @@ own_has file done left own h unrefused took some (inl taken) =
     by_above p at (inl none) pairs = absurd (omega (arith, at, none, some))
     by_above p at (inr above) pairs =
         let over : took.most < file = subst (λ (n : ℕ). took.most < n) at above in
-        has_file file done left own p.source h unrefused took p.among (or_both (p.source.file.0 == file) ((told_taken p.source).target == file) (inr (equal (told_taken p.source).target file at))) (none_gone_above took.most file own over took.ended) (target_apart file own done left p.source some at pairs p.among)
+        has_file file done left own p.source h unrefused took p.among (or_right (p.source.file.0 == file) ((told_taken p.source).target == file) (eq-eqb (told_taken p.source).target file at)) (none_gone_above took.most file own over took.ended) (target_apart file own done left p.source some at pairs p.among)
 
 -- ---- by stage
 

@@ -1,35 +1,13 @@
 -- A storage file that a purge took, or drew as a target, and hasn't given back is claimed by it.
-use Rattle.lane_tasks.proofs.Common.{◌≡◌, ◌==◌, ◌+◌, ℕ, Bool, true, false, cond, List, [], ◌∷◌, map, Option, Some, None, refl, sym, ◌∙◌, ap, subst, arith, inl, inr, ◌≤◌, ◌⊎◌, ◌||◌, ◌&&◌, All, drop, flat_map, is_none, list_any, option_map_or, common_steps, All-head, All-tail, list_any-append}
+use Rattle.lane_tasks.proofs.Common.{◌≡◌, ◌==◌, ◌+◌, ℕ, Bool, true, false, cond, List, [], ◌∷◌, map, Option, Some, None, refl, sym, ◌∙◌, ap, subst, arith, inl, inr, ◌≤◌, ◌⊎◌, ◌||◌, ◌&&◌, All, drop, flat_map, is_none, list_any, option_map_or, All-head, All-tail, list_any-append}
 use Rattle.lane_tasks.proofs.Common.{sum_by-cons, FileNo, Reply, RunEvent, Run, TakenFile, is_one_of, own_events, is_done, gave_back, is_storing, took_file, StoreValue, Emptied, Taken, claims_of_sources, claims_of_switched, claims_of_target, purge_claims, sources_left, PurgeValue, IsAtPurgeStage}
 use Rattle.lane_tasks.proofs.Common.{PurgeStage, Source}
 use Rattle.std.specs.Prelude.{◌++◌}
+use Rattle.std.proofs.lemmas.Bool.{or_cases, or_parts, and_from, eqb-true, and_parts, or_left, or_right, both_ways}
 use Rattle.purge_task.specs.Stages.{HaveTaken, IsAtSwitched, told_taken}
 use Rattle.purge_task.specs.declared.task.PurgeStage.TheVariants as stage
 
 -- ---- tests
-
-or_of : (a b : Bool) → (a || b) ≡ true → (a ≡ true) ⊎ (b ≡ true)
-or_of true b e = inl refl
-or_of false b e = inr e
-
-or_none : (a b : Bool) → (a || b) ≡ false → (a ≡ false) × (b ≡ false)
-or_none true b e = absurd (let z : true ≡ false = e in cc z)
-or_none false b e = (refl, e)
-
-pub or_both : (a b : Bool) → (a ≡ true) ⊎ (b ≡ true) → (a || b) ≡ true
-or_both true b e = refl
-or_both false b (inl e) = absurd (let z : false ≡ true = e in cc z)
-or_both false b (inr e) = e
-
-and_of : (a b : Bool) → (a && b) ≡ true → b ≡ true
-and_of true b e = e
-and_of false b e = absurd (let z : false ≡ true = e in cc z)
-
-pub and_both : (a b : Bool) → a ≡ true → b ≡ true → (a && b) ≡ true
-and_both a b x y = ap (λ (t : Bool). t && b) x ∙ y
-
-pub same : (a b : ℕ) → (a == b) ≡ true → a ≡ b
-same a b e = grind (arith, common_steps, e)
 
 -- ---- what was taken
 
@@ -39,14 +17,10 @@ is_of file t = (t.file == file) || (t.target == file)
 
 all_taken : (file : ℕ) (own : List RunEvent) → list_any (took_file file) own ≡ true → list_any (is_of file) (flat_map (λ (e : RunEvent). e.files) own) ≡ true
 all_taken file [] is = absurd (let z : false ≡ true = is in cc z)
-all_taken file (x ∷ own) is =
-    list_any-append (is_of file) x.files (flat_map (λ (e : RunEvent). e.files) own)
-    ∙ or_both (list_any (is_of file) x.files) (list_any (is_of file) (flat_map (λ (e : RunEvent). e.files) own)) (by_first (or_of (took_file file x) (list_any (took_file file) own) is) (λ later. all_taken file own later))
-  where
-    by_first : (took_file file x ≡ true) ⊎ (list_any (took_file file) own ≡ true) → (list_any (took_file file) own ≡ true → list_any (is_of file) (flat_map (λ (e : RunEvent). e.files) own) ≡ true)
-        → (list_any (is_of file) x.files ≡ true) ⊎ (list_any (is_of file) (flat_map (λ (e : RunEvent). e.files) own) ≡ true)
-    by_first (inl took) rest = inl (and_of (is_none x.refused) (list_any (is_of file) x.files) took)
-    by_first (inr later) rest = inr (rest later)
+all_taken file (x ∷ own) is = elim (or_cases (took_file file x) (list_any (took_file file) own) is) [
+  | inl took ↦ list_any-append (is_of file) x.files (flat_map (λ (e : RunEvent). e.files) own) ∙ or_left (list_any (is_of file) x.files) _ (and_parts (is_none x.refused) (list_any (is_of file) x.files) took).1
+  | inr later ↦ list_any-append (is_of file) x.files (flat_map (λ (e : RunEvent). e.files) own) ∙ or_right (list_any (is_of file) x.files) _ (all_taken file own later)
+]
 
 -- ---- what was given back
 
@@ -59,33 +33,27 @@ is_target_done file own t = (t.target == file) && is_done own t
 none_gone : (file : ℕ) (own : List RunEvent) → list_any (λ (e : RunEvent). is_storing e.part || is_gone file e) own ≡ false → list_any (is_gone file) own ≡ false
 none_gone file [] none = refl
 none_gone file (x ∷ own) none =
-    let parts = or_none (is_storing x.part || is_gone file x) (list_any (λ (e : RunEvent). is_storing e.part || is_gone file e) own) none in
-    let first = or_none (is_storing x.part) (is_gone file x) parts.0 in
+    let parts = or_parts (is_storing x.part || is_gone file x) (list_any (λ (e : RunEvent). is_storing e.part || is_gone file e) own) none in
+    let first = or_parts (is_storing x.part) (is_gone file x) parts.0 in
     let rest = none_gone file own parts.1 in
     ap (λ (b : Bool). b || list_any (is_gone file) own) first.1 ∙ rest
 
 first_back : (file : ℕ) (own : List RunEvent) (s : Source) → is_done own (told_taken s) ≡ true → list_any (is_gone file) own ≡ false → is_target_done file own (told_taken s) ≡ false → is_of file (told_taken s) ≡ true → ⊥
-first_back file own s done gone apart is = by_which (or_of (s.file.0 == file) ((told_taken s).target == file) is)
-  where
-    by_which : ((s.file.0 == file) ≡ true) ⊎ (((told_taken s).target == file) ≡ true) → ⊥
-    by_which (inl at) =
-        let at_file : list_any (is_gone file) own ≡ true = subst (λ (n : ℕ). list_any (is_gone n) own ≡ true) (same s.file.0 file at) done in
-        let z : true ≡ false = sym at_file ∙ gone in cc z
-    by_which (inr at) = let z : true ≡ false = sym (and_both ((told_taken s).target == file) (is_done own (told_taken s)) at done) ∙ apart in cc z
+first_back file own s done gone apart is = elim (or_cases (s.file.0 == file) ((told_taken s).target == file) is) [
+  | inl at ↦ both_ways (list_any (is_gone file) own) gone (subst (λ (n : ℕ). list_any (is_gone n) own ≡ true) (eqb-true s.file.0 file at) done)
+  | inr at ↦ both_ways (is_target_done file own (told_taken s)) apart (and_from ((told_taken s).target == file) (is_done own (told_taken s)) at done)
+]
 
 -- a file that is done was given back, so it is one of the others
 among_left : (file : ℕ) (own : List RunEvent) (done left : List Source) → All (λ source. is_done own (told_taken source) ≡ true) done → list_any (is_gone file) own ≡ false → list_any (is_target_done file own) (map told_taken (done ++ left)) ≡ false
     → list_any (is_of file) (map told_taken (done ++ left)) ≡ true → list_any (is_of file) (map told_taken left) ≡ true
 among_left file own [] left are gone back is = is
 among_left file own (s ∷ done) left are gone back is =
-    let apart = or_none (is_target_done file own (told_taken s)) (list_any (is_target_done file own) (map told_taken (done ++ left))) back in
-    by_first apart.0 (or_of (is_of file (told_taken s)) (list_any (is_of file) (map told_taken (done ++ left))) is)
-    (λ later. among_left file own done left (All-tail (λ (source : Source). is_done own (told_taken source) ≡ true) s done are) gone apart.1 later)
-  where
-    by_first : is_target_done file own (told_taken s) ≡ false → (is_of file (told_taken s) ≡ true) ⊎ (list_any (is_of file) (map told_taken (done ++ left)) ≡ true) → (list_any (is_of file) (map told_taken (done ++ left)) ≡ true → list_any (is_of file) (map told_taken left) ≡ true)
-        → list_any (is_of file) (map told_taken left) ≡ true
-    by_first apart (inl first) rest = absurd (first_back file own s (All-head (λ (source : Source). is_done own (told_taken source) ≡ true) s done are) gone apart first)
-    by_first apart (inr later) rest = rest later
+    let apart = or_parts (is_target_done file own (told_taken s)) (list_any (is_target_done file own) (map told_taken (done ++ left))) back in
+    elim (or_cases (is_of file (told_taken s)) (list_any (is_of file) (map told_taken (done ++ left))) is) [
+      | inl first ↦ absurd (first_back file own s (All-head (λ (source : Source). is_done own (told_taken source) ≡ true) s done are) gone apart.0 first)
+      | inr later ↦ among_left file own done left (All-tail (λ (source : Source). is_done own (told_taken source) ≡ true) s done are) gone apart.1 later
+    ]
 
 -- ---- what is claimed
 
@@ -93,7 +61,7 @@ abbrev Claimed : List Source → ℕ → Type 0
 Claimed left file = (1 ≤ claims_of_sources left (Taken file)) ⊎ (1 ≤ claims_of_sources left (Emptied file))
 
 target_is : (file : ℕ) (o : Option FileNo) → 1 ≤ file → (option_map_or (λ (t : FileNo). t.0) o 0 == file) ≡ true → option_map_or (λ (t : FileNo). t.0 == file) o false ≡ true
-target_is file None some at = absurd (let z = same 0 file at in omega (arith, z, some))
+target_is file None some at = absurd (let z = eqb-true 0 file at in omega (arith, z, some))
 target_is file (Some target) some at = at
 
 abbrev pub counted : Bool → ℕ
@@ -111,7 +79,7 @@ once false e = absurd (let z : false ≡ true = e in cc z)
 
 left_claimed : (file : ℕ) (left : List Source) → 1 ≤ file → list_any (is_of file) (map told_taken left) ≡ true → Claimed left file
 left_claimed file [] some is = absurd (let z : false ≡ true = is in cc z)
-left_claimed file (s ∷ left) some is = by_first (or_of (is_of file (told_taken s)) (list_any (is_of file) (map told_taken left)) is) (λ later. left_claimed file left some later)
+left_claimed file (s ∷ left) some is = by_first (or_cases (is_of file (told_taken s)) (list_any (is_of file) (map told_taken left)) is) (λ later. left_claimed file left some later)
   where
     emptied : claims_of_sources (s ∷ left) (Emptied file) ≡ emptied_once file s + claims_of_sources left (Emptied file)
     emptied = sum_by-cons (emptied_once file) s left
@@ -128,12 +96,12 @@ left_claimed file (s ∷ left) some is = by_first (or_of (is_of file (told_taken
     by_rest (inr n) = inr (omega (arith, emptied, n))
 
     by_first : (is_of file (told_taken s) ≡ true) ⊎ (list_any (is_of file) (map told_taken left) ≡ true) → (list_any (is_of file) (map told_taken left) ≡ true → Claimed left file) → Claimed (s ∷ left) file
-    by_first (inl first) rest = by_which (or_of (s.file.0 == file) ((told_taken s).target == file) first)
+    by_first (inl first) rest = by_which (or_cases (s.file.0 == file) ((told_taken s).target == file) first)
     by_first (inr later) rest = by_rest (rest later)
 
 claimed : (file : ℕ) (done left : List Source) (own : List RunEvent) → HaveTaken done left own → 1 ≤ file → list_any (took_file file) own ≡ true → gave_back file own ≡ false → Claimed left file
 claimed file done left own h some is back =
-    let parts = or_none (list_any (λ (e : RunEvent). is_storing e.part || is_gone file e) own) (list_any (is_target_done file own) (flat_map (λ (e : RunEvent). e.files) own)) back in
+    let parts = or_parts (list_any (λ (e : RunEvent). is_storing e.part || is_gone file e) own) (list_any (is_target_done file own) (flat_map (λ (e : RunEvent). e.files) own)) back in
     left_claimed file left some (among_left file own done left h.done_are (none_gone file own parts.0)
     (subst (λ (ts : List TakenFile). list_any (is_target_done file own) ts ≡ false) h.taken parts.1)
     (subst (λ (ts : List TakenFile). list_any (is_of file) ts ≡ true) h.taken (all_taken file own is)))

@@ -1,7 +1,8 @@
 -- What tasks claim leaves room for their next events.
-use Rattle.lane_tasks.proofs.Common.{◌≡◌, ◌+◌, ℕ, false, List, [], ◌∷◌, Option, Some, None, refl, sym, ◌∙◌, ap, subst, arith, ◌≤◌, drop, option_map_or, All-cons, All-nil, All-head, All-tail, sum_by-cons, History, Request, Lists, Around, AreFilesInOrder, IsStore, StoreValue, Claims, Held, MakeStage}
+use Rattle.lane_tasks.proofs.Common.{◌≡◌, ◌+◌, ℕ, false, List, [], ◌∷◌, Option, Some, None, refl, sym, ◌∙◌, ap, subst, arith, ◌≤◌, drop, option_map_or, All-head, All-tail, sum_by-cons, History, Request, Lists, Around, AreFilesInOrder, IsStore, StoreValue, Claims, Held, MakeStage}
 use Rattle.lane_tasks.proofs.Common.{make_claims, SaveValue, SaveStage, claims_of_sources, claims_of_switched, claims_of_target, purge_claims, sources_left, PurgeStage, Source, IsReadyTask, claims_at, Task}
 use Rattle.std.proofs.Common.{◌*◌, All, length}
+use Rattle.std.proofs.lemmas.List.Elements.{All-weaker}
 use Rattle.mdbox_base.specs.declared.ids.InstId.{InstId}
 use Rattle.mdbox_base.specs.declared.requests.Request.TheVariants as request
 use Rattle.storage_files.specs.declared.file.MailFile.{MailFile}
@@ -28,7 +29,7 @@ make_pins : (now : MakeStage) (file : ℕ) → make_claims now (Pinned file) ≡
 make_pins make_stage.First file = refl
 make_pins (make_stage.Naming number) file = refl
 
-make_holds : (now : MakeStage) (id : InstId) → make_claims now (Held id) ≡ 0
+pub make_holds : (now : MakeStage) (id : InstId) → make_claims now (Held id) ≡ 0
 make_holds make_stage.First id = refl
 make_holds (make_stage.Naming number) id = refl
 
@@ -66,21 +67,14 @@ purge_holds (purge_stage.Removing work) id = let none = switched_holds_none (sou
 purge_holds purge_stage.Instances id = refl
 
 pub task_claims_few : {D : Type 0} → (t : Task) (store : StoreValue D) (history : Option History) → IsReadyTask t store history → ClaimsFew (claims_at t)
-task_claims_few (task.Ops t) store history ready = none_few (claims_at (task.Ops t)) (λ file. refl) (λ id. refl)
-task_claims_few (task.Counts t) store history ready = none_few (claims_at (task.Counts t)) (λ file. refl) (λ id. refl)
 task_claims_few (task.Make t) store history ready = none_few (make_claims t.stage) (make_pins t.stage) (make_holds t.stage)
-task_claims_few (task.Copy t) store history ready = none_few (claims_at (task.Copy t)) (λ file. refl) (λ id. refl)
-task_claims_few (task.Move t) store history ready = none_few (claims_at (task.Move t)) (λ file. refl) (λ id. refl)
-task_claims_few (task.Expunge t) store history ready = none_few (claims_at (task.Expunge t)) (λ file. refl) (λ id. refl)
-task_claims_few (task.Resync t) store history ready = none_few (claims_at (task.Resync t)) (λ file. refl) (λ id. refl)
-task_claims_few (task.Delete t) store history ready = none_few (claims_at (task.Delete t)) (λ file. refl) (λ id. refl)
-task_claims_few (task.Rename t) store history ready = none_few (claims_at (task.Rename t)) (λ file. refl) (λ id. refl)
 task_claims_few (task.Purge t) store history ready = none_few (purge_claims t.stage) (purge_pins t.stage) (purge_holds t.stage)
 task_claims_few (task.Fetch t) store history ready = record { pinned = claims_one_pin t.stage; held = λ id. claims_few t.stage store id ready }
 task_claims_few (task.Deliver t) store history ready = record {
   pinned = λ file. omega arith;
   held = λ id. let few = holds_are_few t.stage t.name t.time t.size ready.0 store history ready.1 id in omega (arith, few);
 }
+task_claims_few t store history ready = none_few (claims_at t) (λ file. refl) (λ id. refl)
 
 -- ---- all of them
 
@@ -97,12 +91,10 @@ total_few thing most (mine ∷ rest) few =
     by_sum m r n t e a b = let d : (n + 1) * most ≡ n * most + most = omega arith in omega (arith, e, a, b, d)
 
 few_pins : (file : ℕ) (each : List Claims) → All ClaimsFew each → All (λ mine. mine (Pinned file) ≤ 1) each
-few_pins file [] few = All-nil (λ (mine : Claims). mine (Pinned file) ≤ 1)
-few_pins file (mine ∷ rest) few = All-cons (λ (one : Claims). one (Pinned file) ≤ 1) mine rest ((All-head ClaimsFew mine rest few).pinned file) (few_pins file rest (All-tail ClaimsFew mine rest few))
+few_pins file = All-weaker ClaimsFew (λ (mine : Claims). mine (Pinned file) ≤ 1) (λ mine few. few.pinned file)
 
 few_holds : (id : InstId) (each : List Claims) → All ClaimsFew each → All (λ mine. mine (Held id) ≤ 65535) each
-few_holds id [] few = All-nil (λ (mine : Claims). mine (Held id) ≤ 65535)
-few_holds id (mine ∷ rest) few = All-cons (λ (one : Claims). one (Held id) ≤ 65535) mine rest ((All-head ClaimsFew mine rest few).held id) (few_holds id rest (All-tail ClaimsFew mine rest few))
+few_holds id = All-weaker ClaimsFew (λ (mine : Claims). mine (Held id) ≤ 65535) (λ mine few. few.held id)
 
 pub room_left : {D : Type 0} → (store : StoreValue D) (each : List Claims) → AddsUp store each → length each ≤ 64 → All ClaimsFew each → HasUseRoom store
 room_left store each adds short few = record {
@@ -133,13 +125,7 @@ room_free size file store history s order found =
 
 stage_free : {D : Type 0} → (now : SaveStage) (file : ℕ) (store : StoreValue D) (history : Option History) → IsStore history store → AreFilesInOrder store.files → room_at now store ≡ Some file → IsFreeToTake file store
 stage_free (save_stage.Taking parts) file store history s order found = room_free (length parts.laid.region) file store history s order found
-stage_free (save_stage.First prepared) file store history s order found = absurd (no_room file None refl found)
-stage_free (save_stage.Attaching parts attaching) file store history s order found = absurd (no_room file None refl found)
-stage_free (save_stage.Placing parts taken) file store history s order found = absurd (no_room file None refl found)
-stage_free (save_stage.Storing at rows room) file store history s order found = absurd (no_room file None refl found)
-stage_free (save_stage.Adding added room) file store history s order found = absurd (no_room file None refl found)
-stage_free (save_stage.GivingBack uid why room) file store history s order found = absurd (no_room file None refl found)
-stage_free save_stage.Ended file store history s order found = absurd (no_room file None refl found)
+stage_free now file store history s order found = absurd (no_room file None refl found)
 
 delivery_free : {D : Type 0} → (t : SaveValue) (asked : Request) (store : StoreValue D) (history : Option History) (around : Around) (file : ℕ) → IsStore history store → AreFilesInOrder store.files → around.room ≡ None → (found_saving t asked store around).room ≡ Some file → IsFreeToTake file store
 delivery_free t (request.Deliver name time octets) store history around file s order none found = stage_free t.stage file store history s order found
@@ -147,30 +133,10 @@ delivery_free t asked store history around file s order none found = absurd (no_
 
 pub found_free : {D : Type 0} → (t : Task) (asked : Request) (store : StoreValue D) (history : Option History) (around : Around) (file : ℕ) → IsStore history store → AreFilesInOrder store.files → around.room ≡ None → (around_at t asked store around).room ≡ Some file → IsFreeToTake file store
 found_free (task.Deliver t) asked store history around file s order none found = delivery_free t asked store history around file s order none found
-found_free (task.Ops t) asked store history around file s order none found = absurd (no_room file around.room none found)
-found_free (task.Counts t) asked store history around file s order none found = absurd (no_room file around.room none found)
-found_free (task.Make t) asked store history around file s order none found = absurd (no_room file around.room none found)
-found_free (task.Copy t) asked store history around file s order none found = absurd (no_room file around.room none found)
-found_free (task.Move t) asked store history around file s order none found = absurd (no_room file around.room none found)
-found_free (task.Expunge t) asked store history around file s order none found = absurd (no_room file around.room none found)
-found_free (task.Purge t) asked store history around file s order none found = absurd (no_room file around.room none found)
-found_free (task.Resync t) asked store history around file s order none found = absurd (no_room file around.room none found)
-found_free (task.Delete t) asked store history around file s order none found = absurd (no_room file around.room none found)
-found_free (task.Rename t) asked store history around file s order none found = absurd (no_room file around.room none found)
-found_free (task.Fetch t) asked store history around file s order none found = absurd (no_room file around.room none found)
+found_free t asked store history around file s order none found = absurd (no_room file around.room none found)
 
 -- ---- what files read
 
 pub safe_answered : {D : Type 0} → (t : Task) (lists : Lists) (store : StoreValue D) (history : Option History) → IsStore history store → store.stopped ≡ false → ReadsSafe lists history → CanAnswer t lists store history
 safe_answered (task.Fetch t) lists store history is runs safe = safe_fetched t.stage t.name t.uid store history lists is runs safe
-safe_answered (task.Ops t) lists store history is runs safe = tt
-safe_answered (task.Counts t) lists store history is runs safe = tt
-safe_answered (task.Make t) lists store history is runs safe = tt
-safe_answered (task.Copy t) lists store history is runs safe = tt
-safe_answered (task.Move t) lists store history is runs safe = tt
-safe_answered (task.Expunge t) lists store history is runs safe = tt
-safe_answered (task.Purge t) lists store history is runs safe = tt
-safe_answered (task.Resync t) lists store history is runs safe = tt
-safe_answered (task.Delete t) lists store history is runs safe = tt
-safe_answered (task.Rename t) lists store history is runs safe = tt
-safe_answered (task.Deliver t) lists store history is runs safe = tt
+safe_answered t lists store history is runs safe = tt

@@ -64,18 +64,15 @@ abbrev StaysReady : {D : Type 0} → Task → StoreValue D → StoreValue D → 
 StaysReady t old new before after = Beside (claims_at t) old new before after → IsReadyTask t old before → IsReadyTask t new after
 
 pub task_stable : {D : Type 0} → (t : Task) (old new : StoreValue D) (before after : Option History) → IsStore before old → IsStore after new → AreFilesInOrder new.files → StaysReady t old new before after
-task_stable (task.Ops t) old new before after was is order b ready = tt
-task_stable (task.Counts t) old new before after was is order b ready = tt
 task_stable (task.Make t) old new before after was is order b ready = (make_stable t.stage old new before after b ready.0, ready.1)
 task_stable (task.Copy t) old new before after was is order b ready = copy_stable t.name t.uid t.stage old new before after b ready
 task_stable (task.Move t) old new before after was is order b ready = move_stable t.name t.uid t.stage old new before after b ready
 task_stable (task.Expunge t) old new before after was is order b ready = expunge_stable t.stage old new before after b ready
 task_stable (task.Fetch t) old new before after was is order b ready = fetch_stable t.stage old new before after b ready
-task_stable (task.Resync t) old new before after was is order b ready = tt
 task_stable (task.Delete t) old new before after was is order b ready = delete_stable t.stage old new before after b ready
-task_stable (task.Rename t) old new before after was is order b ready = tt
 task_stable (task.Purge t) old new before after was is order b ready = purge_stable t old new before after was is order b ready
 task_stable (task.Deliver t) old new before after was is order b ready = (ready.0, save_stable t.stage t.name t.time t.size ready.0 old new before after b ready.1)
+task_stable t old new before after was is order b ready = tt
 
 delivery_stays : {D : Type 0} → (t : SaveValue) (old new : StoreValue D) (before after : Option History) (asked : Request) (run : Run) (place : ℕ) (said : List Reply) (event : RunEvent) → PassesBy (task.Deliver t) old new before after → event.request ≢ place → GivesNew run event
     → IsAtDelivery t old before asked run place said → IsAtDelivery t new after asked (and_then run event) place said
@@ -104,18 +101,9 @@ at_stays (task.Purge t) old new before after faults asked run place said event p
 at_stays (task.Deliver t) old new before after faults asked run place said event passes in_run other gives at = delivery_stays t old new before after asked run place said event passes other gives at
 
 took_stays : (t : Task) (run : Run) (place : ℕ) (event : RunEvent) → event.request ≢ place → TookFiles t run place → TookFiles t (and_then run event) place
-took_stays (task.Ops t) run place event other took = took_none_other run place event other took
-took_stays (task.Counts t) run place event other took = took_none_other run place event other took
-took_stays (task.Make t) run place event other took = took_none_other run place event other took
-took_stays (task.Copy t) run place event other took = took_none_other run place event other took
-took_stays (task.Move t) run place event other took = took_none_other run place event other took
-took_stays (task.Expunge t) run place event other took = took_none_other run place event other took
-took_stays (task.Fetch t) run place event other took = took_none_other run place event other took
-took_stays (task.Resync t) run place event other took = took_none_other run place event other took
-took_stays (task.Delete t) run place event other took = took_none_other run place event other took
-took_stays (task.Rename t) run place event other took = took_none_other run place event other took
 took_stays (task.Purge t) run place event other took = apart_other run place event other took
 took_stays (task.Deliver t) run place event other took = tt
+took_stays t run place event other took = took_none_other run place event other took
 
 pub task_stands : {D : Type 0} → (t : Task) (old new : StoreValue D) (before after : Option History) (faults : Faults) (asked : Request) (run : Run) (place : ℕ) (said : List Reply) (event : RunEvent) → PassesBy t old new before after → PassesInRun t new after faults run event → event.request ≢ place → GivesNew run event
     → StandsTask t old before asked run place said → StandsTask t new after asked (and_then run event) place said
@@ -155,18 +143,14 @@ delivery_unclaimed t (request.Deliver name time octets) at thing = ap (λ (s : S
 delivery_unclaimed t asked at thing = absurd at
 
 pub begins_unclaimed : (asked : Request) (t : Task) → BeginsTask asked t → ClaimsNothing (claims_at t)
-begins_unclaimed asked (task.Ops t) b = λ thing. refl
-begins_unclaimed asked (task.Counts t) b = λ thing. refl
 begins_unclaimed asked (task.Make t) b = make_first t.stage b.at
 begins_unclaimed asked (task.Copy t) b = copy_first t.stage b.at
 begins_unclaimed asked (task.Move t) b = move_first t.stage b.at
 begins_unclaimed asked (task.Expunge t) b = expunge_first t.stage b.at
 begins_unclaimed asked (task.Fetch t) b = λ thing. ap (λ (s : FetchStage). fetch_claims s thing) b.at
-begins_unclaimed asked (task.Resync t) b = λ thing. refl
-begins_unclaimed asked (task.Delete t) b = λ thing. refl
-begins_unclaimed asked (task.Rename t) b = λ thing. refl
 begins_unclaimed asked (task.Purge t) b = λ thing. ap (λ (s : PurgeStage). purge_claims s thing) b.at
 begins_unclaimed asked (task.Deliver t) b = delivery_unclaimed t asked b.at
+begins_unclaimed asked t b = λ thing. refl
 
 fresh_ready : {D : Type 0} → (t : SaveValue) (name : List ℕ) (time : ℕ) (octets : List ℕ) (store : StoreValue D) (history : Option History) → IsFreshDelivery t (request.Deliver name time octets) → IsReadyToDeliver t.stage t.name t.time t.size octets store history
 fresh_ready t name time octets store history at =
@@ -178,18 +162,15 @@ delivery_ready t (request.Deliver name time octets) store history at = (octets, 
 delivery_ready t asked store history at = absurd at
 
 pub begins_ready : {D : Type 0} → (asked : Request) (t : Task) (store : StoreValue D) (history : Option History) → BeginsTask asked t → IsReadyTask t store history
-begins_ready asked (task.Ops t) store history b = tt
-begins_ready asked (task.Counts t) store history b = tt
 begins_ready asked (task.Make t) store history b = subst (λ (s : MakeStage). IsReadyToMake s store × IsMakeNumber s) (sym b.at) (tt, tt)
 begins_ready asked (task.Copy t) store history b = subst (λ (s : CopyStage). IsReadyToCopy t.name t.uid s store) (sym b.at) (record { due = λ other. omega arith; source = tt })
 begins_ready asked (task.Move t) store history b = subst (λ (s : MoveStage). IsReadyToMove t.name t.uid s store) (sym b.at) (record { due = λ other. omega arith; source = tt })
 begins_ready asked (task.Expunge t) store history b = subst (λ (s : ExpungeStage). AreDueIn store (expunge_amounts s)) (sym b.at) (λ other. omega arith)
 begins_ready asked (task.Fetch t) store history b = subst (λ (s : FetchStage). IsReadyToFetch s store) (sym b.at) tt
-begins_ready asked (task.Resync t) store history b = tt
 begins_ready asked (task.Delete t) store history b = subst (λ (s : DeleteStage). IsReadyToDelete s store) (sym b.at) tt
-begins_ready asked (task.Rename t) store history b = tt
 begins_ready asked (task.Purge t) store history b = (subst (λ (s : PurgeStage). HasPurged s store history) (sym b.at) tt, λ differs. absurd (differs b.at))
 begins_ready asked (task.Deliver t) store history b = delivery_ready t asked store history b.at
+begins_ready asked t store history b = tt
 
 delivery_at : {D : Type 0} → (t : SaveValue) (store : StoreValue D) (history : Option History) (asked : Request) (run : Run) (place : ℕ) (said : List Reply) → IsFreshDelivery t asked → HasNotBegun run place said → IsAtDelivery t store history asked run place said
 delivery_at t store history (request.Deliver name time octets) run place said at begun =
@@ -226,18 +207,9 @@ none_took : (run : Run) (place : ℕ) → own_events place run ≡ [] → TookNo
 none_took run place none = subst (λ (own : List RunEvent). All (λ e. e.refused ≡ None → e.files ≡ []) own) (sym none) (All-nil (λ (e : RunEvent). e.refused ≡ None → e.files ≡ []))
 
 begins_took : (t : Task) (run : Run) (place : ℕ) → own_events place run ≡ [] → TookFiles t run place
-begins_took (task.Ops t) run place none = none_took run place none
-begins_took (task.Counts t) run place none = none_took run place none
-begins_took (task.Make t) run place none = none_took run place none
-begins_took (task.Copy t) run place none = none_took run place none
-begins_took (task.Move t) run place none = none_took run place none
-begins_took (task.Expunge t) run place none = none_took run place none
-begins_took (task.Fetch t) run place none = none_took run place none
-begins_took (task.Resync t) run place none = none_took run place none
-begins_took (task.Delete t) run place none = none_took run place none
-begins_took (task.Rename t) run place none = none_took run place none
 begins_took (task.Purge t) run place none = apart_first run place none
 begins_took (task.Deliver t) run place none = tt
+begins_took t run place none = none_took run place none
 
 pub begins_standing : {D : Type 0} → (asked : Request) (t : Task) (store : StoreValue D) (history : Option History) (run : Run) (place : ℕ) (said : List Reply) → BeginsTask asked t → HasNotBegun run place said → StandsTask t store history asked run place said
 begins_standing asked t store history run place said b begun = record {
@@ -257,15 +229,6 @@ delivery_taken t store history asked run place said file at some is left = absur
 
 pub task_taken : {D : Type 0} → (t : Task) (store : StoreValue D) (history : Option History) (asked : Request) (run : Run) (place : ℕ) (said : List Reply) (file : ℕ) → StandsTask t store history asked run place said → 1 ≤ file → list_any (took_file file) (own_events place run) ≡ true → gave_back file (own_events place run) ≡ false
     → (1 ≤ claims_at t (Taken file)) ⊎ (1 ≤ claims_at t (Emptied file))
-task_taken (task.Ops t) store history asked run place said file stood some is left = no_file_taken (claims_at (task.Ops t)) run place file stood.took is
-task_taken (task.Counts t) store history asked run place said file stood some is left = no_file_taken (claims_at (task.Counts t)) run place file stood.took is
-task_taken (task.Make t) store history asked run place said file stood some is left = no_file_taken (claims_at (task.Make t)) run place file stood.took is
-task_taken (task.Copy t) store history asked run place said file stood some is left = no_file_taken (claims_at (task.Copy t)) run place file stood.took is
-task_taken (task.Move t) store history asked run place said file stood some is left = no_file_taken (claims_at (task.Move t)) run place file stood.took is
-task_taken (task.Expunge t) store history asked run place said file stood some is left = no_file_taken (claims_at (task.Expunge t)) run place file stood.took is
-task_taken (task.Fetch t) store history asked run place said file stood some is left = no_file_taken (claims_at (task.Fetch t)) run place file stood.took is
-task_taken (task.Resync t) store history asked run place said file stood some is left = no_file_taken (claims_at (task.Resync t)) run place file stood.took is
-task_taken (task.Delete t) store history asked run place said file stood some is left = no_file_taken (claims_at (task.Delete t)) run place file stood.took is
-task_taken (task.Rename t) store history asked run place said file stood some is left = no_file_taken (claims_at (task.Rename t)) run place file stood.took is
 task_taken (task.Purge t) store history asked run place said file stood some is left = purge_taken t t.stage store run place said file stood.at some is left
 task_taken (task.Deliver t) store history asked run place said file stood some is left = inl (delivery_taken t store history asked run place said file stood.at some is left)
+task_taken t store history asked run place said file stood some is left = no_file_taken (claims_at t) run place file stood.took is

@@ -2,7 +2,8 @@
 use Rattle.lane_tasks.proofs.Common.{◌≡◌, ◌<◌, ℕ, Bool, true, false, List, Option, Some, None, refl, sym, ◌∙◌, ap, subst, arith, ◌≤◌, History, Faults, Uid, Progress, Refusal, Reply, Request, Lists, MapMeaning, Run, RunEvent, and_then, Around, AreFilesInOrder, IsStore, StoreValue, ended_by}
 use Rattle.lane_tasks.proofs.Common.{MakeAnswers, IsAt, MakeStage, IsAtFetch, FetchStage, save_claims, SaveEffects, IsAtSave, IsReadyToDeliver, SaveValue, PurgeValue, IsMakeNumber, TookNoFile, work_left, Task}
 use Rattle.std.proofs.Common.{◌-◌}
-use Rattle.std.specs.Prelude.{◌==◌, is_some}
+use Rattle.std.specs.Prelude.{◌==◌, is_some, ◌↔◌}
+use Rattle.std.proofs.lemmas.Bool.{eqb-true}
 use Rattle.mdbox_base.specs.declared.entries.Highest.{Highest}
 use Rattle.mdbox_base.specs.declared.progress.Did.{Did}
 use Rattle.mdbox_base.specs.declared.progress.Did.TheVariants as did
@@ -37,7 +38,6 @@ use Rattle.mail_fetch.specs.Task.{FetchValue, seen_in}
 use Rattle.mail_fetch.specs.declared.task.FetchStage.TheVariants as fetch_stage
 use Rattle.mail_save.specs.Ready.{IsReadyToSave}
 use Rattle.mail_save.specs.SaveSeen.{HasItsParts, StepsWithRoom, around_saving}
-use Rattle.mail_save.specs.Task.{EndsSave}
 use Rattle.mail_save.proofs.SavePartLemmas.{ready_has_parts}
 use Rattle.purge_task.specs.Clause.{PurgeSteps, TellsUses, around_purging}
 use Rattle.purge_task.specs.Stages.{IsAtPurge}
@@ -47,9 +47,8 @@ use Rattle.lane_tasks.specs.Clause.{DoomsNone, FindsAround, LeavesUndoomed, Sets
 use Rattle.lane_tasks.specs.Tasks.{IsAtTask, IsDeliveryOf, IsTaskOf, TookFiles, did_of}
 use Rattle.lane_tasks.specs.declared.task.Task.TheVariants as task
 use Rattle.lane_tasks.proofs.NamedLemmas.{names_on}
-use Rattle.lane_tasks.proofs.FilesLemmas.{TakesNone, copy_takes_none, counts_takes_none, delete_takes_none, expunge_takes_none, fetch_takes_none, flag_takes_none, list_takes_none, make_takes_none, move_takes_none, rename_takes_none, resync_takes_none, took_none_more, words_take_none}
+use Rattle.lane_tasks.proofs.FilesLemmas.{TouchesNoMail, TakesNone, fetch_takes_none, takes_none, took_none_more}
 use Rattle.lane_tasks.proofs.PurgeApartLemmas.{apart_on}
-use Rattle.lane_tasks.proofs.PurgeTakenLemmas.{same}
 
 -- of a task that takes no files, and whose next value is of its request, in a store that keeps its files as they are, with what its event found
 pub steps_found : {D : Type 0} → (t next : Task) (q : Request) (old new : StoreValue D) (before after : Option History) (began now : Faults) (ended : Option Reply)
@@ -110,23 +109,23 @@ expunge_request t u e = let n = e.0 in let i = e.1 in cc (n, i)
 pub copy_does : {D : Type 0} → (t u : CopyValue) (old new : StoreValue D) (before after : Option History) (began now : Faults) (ended : Option Reply) → (u.name ≡ t.name) × (u.uid ≡ t.uid) × (u.target ≡ t.target) → KeepsRest old new
     → StepsFrom (IsAtCopy t.stage) (IsAtCopy u.stage) (request.Copy t.name t.uid t.target) old new before after began now u.did ended → StepsTask (task.Copy t) (task.Copy u) old new before after began now ended
 copy_does t u old new before after began now ended same rest steps =
-    steps_by (task.Copy t) (task.Copy u) (request.Copy t.name t.uid t.target) old new before after began now ended (λ asked is. (is, is ∙ copy_request t u same)) (copy_takes_none t.name t.uid t.target) (rest_files old new rest) (λ run place took. took) (λ run place took. took) (λ asked around. refl) steps
+    steps_by (task.Copy t) (task.Copy u) (request.Copy t.name t.uid t.target) old new before after began now ended (λ asked is. (is, is ∙ copy_request t u same)) (takes_none (request.Copy t.name t.uid t.target) tt) (rest_files old new rest) (λ run place took. took) (λ run place took. took) (λ asked around. refl) steps
 
 pub move_does : {D : Type 0} → (t u : MoveValue) (old new : StoreValue D) (before after : Option History) (began now : Faults) (ended : Option Reply) → (u.name ≡ t.name) × (u.uid ≡ t.uid) × (u.target ≡ t.target) → KeepsRest old new
     → StepsFrom (IsAtMove t.uid t.stage) (IsAtMove t.uid u.stage) (request.Move t.name t.uid t.target) old new before after began now u.did ended → StepsTask (task.Move t) (task.Move u) old new before after began now ended
 move_does t u old new before after began now ended same rest steps =
-    steps_by (task.Move t) (task.Move u) (request.Move t.name t.uid t.target) old new before after began now ended (λ asked is. (is, is ∙ move_request t u same)) (move_takes_none t.name t.uid t.target) (rest_files old new rest) (λ run place took. took) (λ run place took. took) (λ asked around. refl)
+    steps_by (task.Move t) (task.Move u) (request.Move t.name t.uid t.target) old new before after began now ended (λ asked is. (is, is ∙ move_request t u same)) (takes_none (request.Move t.name t.uid t.target) tt) (rest_files old new rest) (λ run place took. took) (λ run place took. took) (λ asked around. refl)
     (λ around behind pins. subst (λ (k : Uid). Steps (IsAtMove t.uid t.stage) (IsAtMove k u.stage) around behind (request.Move t.name t.uid t.target) (seen_of pins old before began) (seen_of pins new after now) u.did ended) (sym same.1) (steps around behind pins))
 
 pub expunge_does : {D : Type 0} → (t u : ExpungeValue) (old new : StoreValue D) (before after : Option History) (began now : Faults) (ended : Option Reply) → (u.name ≡ t.name) × (u.uid ≡ t.uid) → KeepsRest old new
     → StepsFrom (IsAtExpunge t.stage) (IsAtExpunge u.stage) (request.Expunge t.name t.uid) old new before after began now u.did ended → StepsTask (task.Expunge t) (task.Expunge u) old new before after began now ended
 expunge_does t u old new before after began now ended same rest steps =
-    steps_by (task.Expunge t) (task.Expunge u) (request.Expunge t.name t.uid) old new before after began now ended (λ asked is. (is, is ∙ expunge_request t u same)) (expunge_takes_none t.name t.uid) (rest_files old new rest) (λ run place took. took) (λ run place took. took) (λ asked around. refl) steps
+    steps_by (task.Expunge t) (task.Expunge u) (request.Expunge t.name t.uid) old new before after began now ended (λ asked is. (is, is ∙ expunge_request t u same)) (takes_none (request.Expunge t.name t.uid) tt) (rest_files old new rest) (λ run place took. took) (λ run place took. took) (λ asked around. refl) steps
 
 pub make_does : {D : Type 0} → (t u : MakeValue) (old new : StoreValue D) (before after : Option History) (began now : Faults) (ended : Option Reply) → u.name ≡ t.name → KeepsAllButLogs old new
     → StepsFrom (IsAtMake t.stage) (IsAtMake u.stage) (request.Make t.name) old new before after began now u.did ended → StepsTask (task.Make t) (task.Make u) old new before after began now ended
 make_does t u old new before after began now ended same rest steps =
-    steps_by (task.Make t) (task.Make u) (request.Make t.name) old new before after began now ended (λ asked is. (is, is ∙ ap request.Make (sym same))) (make_takes_none t.name) (logs_files old new rest) (λ run place took. took) (λ run place took. took) (λ asked around. refl) steps
+    steps_by (task.Make t) (task.Make u) (request.Make t.name) old new before after began now ended (λ asked is. (is, is ∙ ap request.Make (sym same))) (takes_none (request.Make t.name) tt) (logs_files old new rest) (λ run place took. took) (λ run place took. took) (λ asked around. refl) steps
 
 delete_request : (t u : DeleteValue) → u.name ≡ t.name → request.Delete t.name ≡ request.Delete u.name
 delete_request t u e = ap request.Delete (sym e)
@@ -134,7 +133,7 @@ delete_request t u e = ap request.Delete (sym e)
 pub delete_does : {D : Type 0} → (t u : DeleteValue) (old new : StoreValue D) (before after : Option History) (began now : Faults) (ended : Option Reply) → u.name ≡ t.name → KeepsRest old new
     → StepsFrom (IsAtDelete t.stage) (IsAtDelete u.stage) (request.Delete t.name) old new before after began now u.did ended → StepsTask (task.Delete t) (task.Delete u) old new before after began now ended
 delete_does t u old new before after began now ended same rest steps =
-    steps_by (task.Delete t) (task.Delete u) (request.Delete t.name) old new before after began now ended (λ asked is. (is, is ∙ delete_request t u same)) (delete_takes_none t.name) (rest_files old new rest) (λ run place took. took) (λ run place took. took) (λ asked around. refl) steps
+    steps_by (task.Delete t) (task.Delete u) (request.Delete t.name) old new before after began now ended (λ asked is. (is, is ∙ delete_request t u same)) (takes_none (request.Delete t.name) tt) (rest_files old new rest) (λ run place took. took) (λ run place took. took) (λ asked around. refl) steps
 
 rename_request : (t u : RenameValue) → (u.name ≡ t.name) × (u.target ≡ t.target) → request.Rename t.name t.target ≡ request.Rename u.name u.target
 rename_request t u e = let n = e.0 in let g = e.1 in cc (n, g)
@@ -142,13 +141,13 @@ rename_request t u e = let n = e.0 in let g = e.1 in cc (n, g)
 pub rename_does : {D : Type 0} → (t u : RenameValue) (old new : StoreValue D) (before after : Option History) (began now : Faults) (ended : Option Reply) → (u.name ≡ t.name) × (u.target ≡ t.target) → KeepsRest old new
     → StepsFrom HasNotBegun HasNotBegun (request.Rename t.name t.target) old new before after began now u.did ended → StepsTask (task.Rename t) (task.Rename u) old new before after began now ended
 rename_does t u old new before after began now ended same rest steps =
-    steps_by (task.Rename t) (task.Rename u) (request.Rename t.name t.target) old new before after began now ended (λ asked is. (is, is ∙ rename_request t u same)) (rename_takes_none t.name t.target) (rest_files old new rest) (λ run place took. took) (λ run place took. took) (λ asked around. refl) steps
+    steps_by (task.Rename t) (task.Rename u) (request.Rename t.name t.target) old new before after began now ended (λ asked is. (is, is ∙ rename_request t u same)) (takes_none (request.Rename t.name t.target) tt) (rest_files old new rest) (λ run place took. took) (λ run place took. took) (λ asked around. refl) steps
 
-ops_takes_none : (q : Request) → IsOpsRequest q → TakesNone q
-ops_takes_none (request.List name) is = list_takes_none name
-ops_takes_none (request.Flag name uid flags) is = flag_takes_none name uid flags
-ops_takes_none (request.Keywords name uid words) is = words_take_none name uid words
-ops_takes_none other is = absurd is
+ops_leave : (q : Request) → IsOpsRequest q → TouchesNoMail q
+ops_leave (request.Deliver name time octets) is = is
+ops_leave (request.Fetch name uid) is = is
+ops_leave request.Purge is = is
+ops_leave other is = tt
 
 -- a task that replied so is of such a request
 pub ops_asked : {D : Type 0} → (q : Request) (old new : StoreValue D) (given : Reply) → Replies q old new given → IsOpsRequest q
@@ -160,16 +159,16 @@ ops_asked other old new given r = absurd r
 pub ops_does : {D : Type 0} → (t u : TaskValue) (old new : StoreValue D) (before after : Option History) (began now : Faults) (ended : Option Reply) → IsOpsRequest t.request → u.request ≡ t.request → KeepsRest old new
     → StepsFrom (IsAt t.stage) (IsAt u.stage) t.request old new before after began now u.did ended → StepsTask (task.Ops t) (task.Ops u) old new before after began now ended
 ops_does t u old new before after began now ended is_ops same rest steps =
-    steps_by (task.Ops t) (task.Ops u) t.request old new before after began now ended (λ asked is. (is, is ∙ sym same)) (ops_takes_none t.request is_ops) (rest_files old new rest) (λ run place took. took) (λ run place took. took) (λ asked around. refl) steps
+    steps_by (task.Ops t) (task.Ops u) t.request old new before after began now ended (λ asked is. (is, is ∙ sym same)) (takes_none t.request (ops_leave t.request is_ops)) (rest_files old new rest) (λ run place took. took) (λ run place took. took) (λ asked around. refl) steps
 
 pub counts_does : {D : Type 0} → (t u : Did) (store : StoreValue D) (history : Option History) (faults : Faults) (ended : Option Reply) → StepsFrom HasNotBegun HasNotBegun request.Counts store store history history faults faults u ended
     → StepsTask (task.Counts t) (task.Counts u) store store history history faults faults ended
-counts_does t u store history faults ended steps = steps_by (task.Counts t) (task.Counts u) request.Counts store store history history faults faults ended (λ asked is. (is, is)) counts_takes_none refl (λ run place took. took) (λ run place took. took) (λ asked around. refl) steps
+counts_does t u store history faults ended steps = steps_by (task.Counts t) (task.Counts u) request.Counts store store history history faults faults ended (λ asked is. (is, is)) (takes_none request.Counts tt) refl (λ run place took. took) (λ run place took. took) (λ asked around. refl) steps
 
 pub resync_does : {D : Type 0} → (t u : ResyncValue) (old new : StoreValue D) (before after : Option History) (began now : Faults) (ended : Option Reply) → KeepsRest old new → ResyncClause t.stage u.stage old new before after began now u.did ended
     → StepsTask (task.Resync t) (task.Resync u) old new before after began now ended
 resync_does t u old new before after began now ended rest steps =
-    steps_found (task.Resync t) (task.Resync u) request.Resync old new before after began now ended (λ asked is. (is, is)) resync_takes_none (rest_files old new rest) (λ run place took. took) (λ run place took. took) (λ asked around behind pins. steps behind pins)
+    steps_found (task.Resync t) (task.Resync u) request.Resync old new before after began now ended (λ asked is. (is, is)) (takes_none request.Resync tt) (rest_files old new rest) (λ run place took. took) (λ run place took. took) (λ asked around behind pins. steps behind pins)
 
 -- ---- a store that is stopped, and files that are doomed
 
@@ -225,9 +224,7 @@ make_fewer name t u old new before after answer said more fewer =
 
 pub use_room : {D : Type 0} → (now : FetchStage) (store : StoreValue D) → HasUseRoom store → HasFetchRoom now store
 use_room fetch_stage.First store room = room
-use_room (fetch_stage.Reading region) store room = tt
-use_room (fetch_stage.Unpinning from given) store room = tt
-use_room (fetch_stage.Removing file given) store room = tt
+use_room now store room = tt
 
 fetch_request : (t u : FetchValue) → (u.name ≡ t.name) × (u.uid ≡ t.uid) → request.Fetch t.name t.uid ≡ request.Fetch u.name u.uid
 fetch_request t u e = let n = e.0 in let i = e.1 in cc (n, i)
@@ -364,7 +361,7 @@ known_drawn run store history faults come runs is order file free = by_end (end_
         let found = found-ending file store.files.files end e in
         let low = found_holds (λ (f : MailFile). f.file.0 == file) store.files.files found.0 (λ (f : MailFile). f.file.0 ≤ store.files.highest) found.1 order.below in
         let within = low.0 in
-        let at = same found.0.file.0 file low.1 in
+        let at = eqb-true found.0.file.0 file low.1 in
         omega (arith, within, at, highest)
 
 -- one that goes on isn't refused
@@ -422,9 +419,9 @@ request_stays (task.Purge t) (task.Purge next) asked same is = is
 request_stays t next asked same is = absurd same
 
 -- one that goes on ran in a store that runs
-pub deliver_ran : {D : Type 0} → (old new : StoreValue D) (answer : Progress) → EndsSave answer old new → answer ≡ progress.More → old.stopped ≡ false
-deliver_ran old new answer ends more = by_test new.stopped refl
+pub more_ran : {D : Type 0} → (old new : StoreValue D) (answer : Progress) → ((answer ≡ progress.Done (reply.Refused refusal.Stopped)) ↔ (new.stopped ≡ true)) → (old.stopped ≡ true → new ≡ old) → answer ≡ progress.More → old.stopped ≡ false
+more_ran old new answer halts still more = by_test new.stopped refl
   where
     by_test : (b : Bool) → new.stopped ≡ b → old.stopped ≡ false
-    by_test true is = absurd (let k : progress.More ≡ progress.Done (reply.Refused refusal.Stopped) = sym more ∙ ends.stopped.1 is in cc k)
-    by_test false is = ran_before old.stopped new.stopped (λ stopped. ap (λ (s : StoreValue _). s.stopped) (ends.still stopped) ∙ stopped) is
+    by_test true is = absurd (let k : progress.More ≡ progress.Done (reply.Refused refusal.Stopped) = sym more ∙ halts.1 is in cc k)
+    by_test false is = ran_before old.stopped new.stopped (stays_stopped old new still) is

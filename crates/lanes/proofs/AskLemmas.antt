@@ -1,9 +1,9 @@
 -- A request that is added to a world.
 use Rattle.std.proofs.Common.{◌≡◌, ◌<◌, ◌≤◌, ◌+◌, ◌-◌, ◌==◌, ℕ, zero, suc, Bool, true, false, cond, List, [], ◌∷◌, ◌++◌, map, slice_set, Option, Some, None, refl, sym, ◌∙◌, ap, subst, arith, inl, inr}
-use Rattle.std.specs.Prelude.{◌≢◌, ◌⊎◌, ◌&&◌, All, is_some, length, option_map, slice_get}
+use Rattle.std.specs.Prelude.{◌≢◌, ◌⊎◌, ◌&&◌, All, is_some, length, slice_get}
 use Rattle.std.specs.Option.{option_map_or}
 use Rattle.std.proofs.lemmas.List.{length-append, length-set}
-use Rattle.std.proofs.lemmas.List.Elements.{All-append, All-cons, All-head, All-nil, All-tail, All-weaker}
+use Rattle.std.proofs.lemmas.List.Elements.{All-append, All-cons, All-head, All-nil, All-tail, All-weaker, All-push}
 use Rattle.std.proofs.lemmas.List.Sums.{sum_by-cons}
 use Rattle.std.proofs.lemmas.Option.{slice_get_within}
 use Rattle.disk_model.specs.Disk.{Faults, History}
@@ -14,6 +14,7 @@ use Rattle.mdbox_base.specs.declared.requests.Request.TheVariants as request
 use Rattle.mdbox_base.specs.declared.script.JournalEntry.{JournalEntry}
 use Rattle.model_lists.specs.Lists.{Lists}
 use Rattle.list_machine.specs.Run.{Run, RunEvent, own_events}
+use Rattle.journal.proofs.ReachedLemmas.{get_last}
 use Rattle.journal.specs.Journal.{Broken, JournalStep, Requests}
 use Rattle.journal.proofs.JournalLemmas.{get_more}
 use Rattle.serving.specs.Accounts.{IsReadyLane, LanesAccount, lane_claims}
@@ -29,13 +30,15 @@ use Rattle.mail_fetch.specs.Task.{seen_in}
 use Rattle.lane_tasks.specs.Tasks.{BeginsTask, IsReadyTask, claims_at}
 use Rattle.lane_tasks.specs.declared.task.Task.{Task}
 use Rattle.lane_tasks.proofs.StandLemmas.{begins_ready, begins_standing, begins_unclaimed}
+use Rattle.lanes.proofs.WorldLemmas.{one_none}
+use Rattle.lanes.proofs.KeptLemmas.{map_more}
 use Rattle.lanes.specs.Asked.{HasNoIdleTurn, IsRequestAsked, asked_behind, row_asked, world_asked}
 use Rattle.lanes.specs.Going.{AreUndamaged, AreWaiting, FindsMessages, IsGoing, IsUndamaged, WaitsWithTask, stands_in}
 use Rattle.lanes.specs.Rows.{LaneRow, lane_value, lanes_of, queue_in}
 use Rattle.lanes.specs.Worlds.{BeginsSome, IsSoundWorld, IsWorldOf, WorldValue, replied_in, times_waiting}
 use Rattle.lanes.specs.declared.lane.Queued.{Queued}
-use Rattle.lanes.proofs.GoingLemmas.{all_waiting, as_many, rows_set, value_at}
-use Rattle.lanes.proofs.GrowLemmas.{events_old, get_last, no_events, old_or_last, old_reply, serving_grows}
+use Rattle.lanes.proofs.GoingLemmas.{all_waiting, as_many, rows_set, value_at, set_twice, row_cases}
+use Rattle.lanes.proofs.GrowLemmas.{events_old, no_events, old_or_last, old_reply, serving_grows}
 use Rattle.lanes.proofs.SoundLemmas.{each_set}
 use Rattle.lanes.proofs.WaitingLemmas.{equal_test, sum_set, times_cons, times_in}
 
@@ -47,10 +50,6 @@ behind_idle q row none = ap (λ (o : Option Queued). option_map_or (λ (first : 
 pub behind_busy : (q : Queued) (row : LaneRow) (first : Queued) → row.current ≡ Some first → row_asked q row ≡ record { current = Some first; waiting = row.waiting ++ q ∷ [] }
 behind_busy q row first was = ap (λ (o : Option Queued). option_map_or (λ (first : Queued). record { current = Some first; waiting = row.waiting ++ q ∷ [] }) o (record { current = Some q; waiting = [] })) was
 
-map_push : (xs : List Queued) (q : Queued) → map (λ (x : Queued). x.place) (xs ++ q ∷ []) ≡ map (λ (x : Queued). x.place) xs ++ q.place ∷ []
-map_push [] q = refl
-map_push (x ∷ xs) q = ap (λ (ps : List ℕ). x.place ∷ ps) (map_push xs q)
-
 -- a lane that has these requests behind the first
 abbrev busy_value : Queued → List ℕ → LaneValue Task
 busy_value first places = record { queue = first.place ∷ places; task = Some first.task }
@@ -61,43 +60,20 @@ idle_value place task = record { queue = place ∷ []; task = task }
 
 -- its queue
 pub queue_behind : (q : Queued) (row : LaneRow) → queue_in (row_asked q row) ≡ queue_in row ++ q.place ∷ []
-queue_behind q row = by_current row.current refl
-  where
-    by_current : (o : Option Queued) → row.current ≡ o → queue_in (row_asked q row) ≡ queue_in row ++ q.place ∷ []
-    by_current None none = ap queue_in (behind_idle q row none) ∙ sym (ap (λ (o : Option Queued). queue_in (record row { current = o }) ++ q.place ∷ []) none)
-    by_current (Some first) was =
-        ap queue_in (behind_busy q row first was) ∙ (ap (λ (ps : List ℕ). first.place ∷ ps) (map_push row.waiting q)
-        ∙ sym (ap (λ (o : Option Queued). queue_in (record row { current = o }) ++ q.place ∷ []) was))
+queue_behind q = row_cases (λ row. queue_in (row_asked q row) ≡ queue_in row ++ q.place ∷ []) (λ waiting. refl) (λ first waiting. ap (λ (ps : List ℕ). first.place ∷ ps) (map_more (λ (x : Queued). x.place) waiting q))
 
 -- what holds of each request of a lane, and of this one, holds of those that wait then
 waiting_behind : (P : Queued → Type 0) (q : Queued) (row : LaneRow) → P q → All P row.waiting → All P (row_asked q row).waiting
-waiting_behind P q row own all = by_current row.current refl
-  where
-    by_current : (o : Option Queued) → row.current ≡ o → All P (row_asked q row).waiting
-    by_current None none = subst (λ (r : LaneRow). All P r.waiting) (sym (behind_idle q row none)) (All-nil P)
-    by_current (Some first) was = subst (λ (r : LaneRow). All P r.waiting) (sym (behind_busy q row first was)) (All-append P row.waiting (q ∷ []) all (All-cons P q [] own (All-nil P)))
+waiting_behind P q row own = row_cases (λ r. All P r.waiting → All P (row_asked q r).waiting) (λ waiting all. All-nil P) (λ first waiting all. All-push P waiting q all own) row
 
 -- it claims what it did, since its task is the same, or begins
 same_claims : (asked : Request) (q : Queued) (row : LaneRow) (thing : Thing) → BeginsTask asked q.task → lane_claims claims_at (lane_value (row_asked q row)) thing ≡ lane_claims claims_at (lane_value row) thing
-same_claims asked q row thing begins = by_current row.current refl
-  where
-    by_current : (o : Option Queued) → row.current ≡ o → lane_claims claims_at (lane_value (row_asked q row)) thing ≡ lane_claims claims_at (lane_value row) thing
-    by_current None none =
-        ap (λ (r : LaneRow). lane_claims claims_at (lane_value r) thing) (behind_idle q row none) ∙ (begins_unclaimed asked q.task begins thing
-        ∙ sym (ap (λ (o : Option Queued). lane_claims claims_at (lane_value (record row { current = o })) thing) none))
-    by_current (Some first) was =
-        ap (λ (r : LaneRow). lane_claims claims_at (lane_value r) thing) (behind_busy q row first was)
-        ∙ sym (ap (λ (o : Option Queued). lane_claims claims_at (lane_value (record row { current = o })) thing) was)
+same_claims asked q row thing begins = row_cases (λ r. lane_claims claims_at (lane_value (row_asked q r)) thing ≡ lane_claims claims_at (lane_value r) thing) (λ waiting. begins_unclaimed asked q.task begins thing) (λ first waiting. refl) row
 
 ready_behind : {D : Type 0} → (asked : Request) (q : Queued) (row : LaneRow) (store : StoreValue D) (history : Option History) → BeginsTask asked q.task → IsReadyLane IsReadyTask (lane_value row) store history → IsReadyLane IsReadyTask (lane_value (row_asked q row)) store history
-ready_behind asked q row store history begins ready = by_current row.current refl
-  where
-    by_current : (o : Option Queued) → row.current ≡ o → IsReadyLane IsReadyTask (lane_value (row_asked q row)) store history
-    by_current None none task has =
-        let same : Some q.task ≡ Some task = sym (ap (λ (r : LaneRow). (lane_value r).task) (behind_idle q row none)) ∙ has in
-        subst (λ (t : Task). IsReadyTask t store history) (one_some q.task task same) (begins_ready asked q.task store history begins)
-    by_current (Some first) was task has =
-        ready task (ap (λ (o : Option Queued). option_map (λ (x : Queued). x.task) o) was ∙ (sym (ap (λ (r : LaneRow). (lane_value r).task) (behind_busy q row first was)) ∙ has))
+ready_behind asked q row store history begins =
+    row_cases (λ r. IsReadyLane IsReadyTask (lane_value r) store history → IsReadyLane IsReadyTask (lane_value (row_asked q r)) store history)
+    (λ waiting ready task has. subst (λ (t : Task). IsReadyTask t store history) (one_some q.task task has) (begins_ready asked q.task store history begins)) (λ first waiting ready. ready) row
 
 -- ---- all lanes
 
@@ -227,11 +203,7 @@ grown_waiting : (script : Requests) (q : ℕ × Request) (lane : ℕ) (waiting :
 grown_waiting script q lane waiting all = All-weaker (WaitsWithTask script lane) (WaitsWithTask (script ++ q ∷ []) lane) (λ one w. (w.0, get_more script (q ∷ []) one.place (lane, w.0) w.1, w.2)) waiting all
 
 counts_grow : (lane : ℕ) (script : Requests) (q : ℕ × Request) (replies : List (Option Reply)) → length replies ≡ length script → replied_in lane (script ++ q ∷ []) (replies ++ None ∷ []) ≡ replied_in lane script replies
-counts_grow lane [] q [] many = by_test (q.0 == lane)
-  where
-    by_test : (b : Bool) → one_if (b && false) + 0 ≡ 0
-    by_test true = refl
-    by_test false = refl
+counts_grow lane [] q [] many = let none = one_none lane q in omega (arith, none)
 counts_grow lane [] q (r ∷ replies) many = absurd (omega (arith, many))
 counts_grow lane (a ∷ script) q [] many = absurd (omega (arith, many))
 counts_grow lane (a ∷ script) q (r ∷ replies) many = let h = counts_grow lane script q replies (omega (arith, many)) in ap (λ (n : ℕ). cond (a.0 == lane && is_some r) 1 0 + n) h
@@ -251,18 +223,13 @@ serving_asked {D} start script run journal broken replies began now store histor
     Grown : List (LaneValue Task) → Type 0
     Grown lanes = IsServing (stands_in store history) start (script ++ (k + 1, asked) ∷ []) run journal broken (replies ++ None ∷ []) began now lanes
 
-    set_twice : {X : Type 0} → (xs : List X) (n : ℕ) (x y : X) → slice_set (slice_set xs n x) n y ≡ slice_set xs n y
-    set_twice [] n x y = refl
-    set_twice (a ∷ xs) zero x y = refl
-    set_twice (a ∷ xs) (suc n) x y = ap (λ (vs : List _). a ∷ vs) (set_twice xs n x y)
-
     at_now : (value : LaneValue Task) → lane_value (row_asked q row) ≡ value → slice_set (lanes_of rows) k value ≡ lanes_of (slice_set rows k (row_asked q row))
     at_now value is = ap (slice_set (lanes_of rows) k) (sym is) ∙ sym (rows_set rows k (row_asked q row))
 
     by_current : (o : Option Queued) → row.current ≡ o → Grown (lanes_of (slice_set rows k (row_asked q row)))
     by_current (Some first) was =
         let value : lane_value (row_asked q row) ≡ asked_behind (length script) (lane_value row) =
-        ap lane_value (behind_busy q row first was) ∙ (ap (busy_value first) (map_push row.waiting q) ∙ sym (ap (λ (o : Option Queued). asked_behind (length script) (lane_value (record row { current = o }))) was)) in
+        ap lane_value (behind_busy q row first was) ∙ (ap (busy_value first) (map_more (λ (x : Queued). x.place) row.waiting q) ∙ sym (ap (λ (o : Option Queued). asked_behind (length script) (lane_value (record row { current = o }))) was)) in
         subst Grown (at_now (asked_behind (length script) (lane_value row)) value) grown
     by_current None none =
         let own : asked_behind (length script) (lane_value row) ≡ idle_value (length script) None = ap (λ (o : Option Queued). asked_behind (length script) (lane_value (record row { current = o }))) none in

@@ -6,12 +6,11 @@ use Rattle.std.proofs.lemmas.List.Sums.{sum_by-cons}
 use Rattle.std.proofs.lemmas.Option.{slice_get-map}
 use Rattle.disk_model.specs.Disk.{History, Faults, told_calls}
 use Rattle.mdbox_base.specs.declared.ids.Uid.{Uid}
-use Rattle.mdbox_base.specs.declared.replies.Reply.{Reply}
 use Rattle.mdbox_base.specs.declared.requests.Request.{Request}
 use Rattle.mdbox_base.specs.declared.requests.Request.TheVariants as request
 use Rattle.model_lists.specs.Lists.{Lists}
 use Rattle.list_machine.specs.Run.{Run, RunEvent, own_events}
-use Rattle.journal.specs.Journal.{HasReply, Requests, no_broken}
+use Rattle.journal.specs.Journal.{Requests, no_broken}
 use Rattle.journal.specs.Makes.{HasCome}
 use Rattle.storage_files.specs.Files.{pins_in}
 use Rattle.store_core.specs.Value.{StoreValue}
@@ -24,16 +23,17 @@ use Rattle.serving.specs.Accounts.{IsReadyLane, lane_claims}
 use Rattle.serving.specs.Lanes.{AreFresh, LaneAt, LaneValue, said_by}
 use Rattle.serving.specs.Serving.{HaveLanes, IsServing, unreplied}
 use Rattle.serving.proofs.LaneLemmas.{one_some}
-use Rattle.serving.proofs.StartLemmas.{serving_start}
+use Rattle.serving.proofs.StartLemmas.{serving_start, none_given}
 use Rattle.serving.proofs.TakeUpLemmas.{TakesUp, lane_taken_up}
 use Rattle.mail_fetch.specs.Task.{seen_in}
 use Rattle.lane_tasks.specs.Tasks.{BeginsTask, IsReadyTask, claims_at}
 use Rattle.lane_tasks.specs.declared.task.Task.{Task}
 use Rattle.lane_tasks.proofs.StandLemmas.{begins_ready, begins_standing, begins_unclaimed}
-use Rattle.lanes.specs.Going.{AreFreshRows, AreUndamaged, FindsMessages, IsFreshRow, IsGoing, IsUndamaged, stands_in}
+use Rattle.lanes.specs.Worlds.{BeginsSome}
+use Rattle.lanes.specs.Going.{AreFreshRows, AreUndamaged, FindsMessages, IsFreshRow, IsGoing, IsUndamaged, stands_in, WaitsWithTask}
 use Rattle.lanes.specs.Rows.{LaneRow, lane_value, lanes_of, queue_in}
 use Rattle.lanes.specs.declared.lane.Queued.{Queued}
-use Rattle.lanes.proofs.GoingLemmas.{queue_is}
+use Rattle.lanes.proofs.GoingLemmas.{row_cases}
 
 -- ---- the store
 
@@ -65,22 +65,18 @@ row_of f [] k value there = absurd (let z : None ≡ Some value = there in cc z)
 row_of f (row ∷ more) zero value there = (row, refl, one_some (f row) value there)
 row_of f (row ∷ more) (suc k) value there = row_of f more k value there
 
-row_unclaimed : (script : Requests) (lane : ℕ) (row : LaneRow) → IsFreshRow script lane row → ClaimsNothing (lane_claims claims_at (lane_value row))
-row_unclaimed script lane row fresh thing = by_current row.current refl
-  where
-    by_current : (current : Option Queued) → row.current ≡ current → lane_claims claims_at (lane_value row) thing ≡ 0
-    by_current None is = ap (λ (o : Option Queued). lane_claims claims_at (lane_value (record row { current = o })) thing) is
-    by_current (Some first) is = let b = fresh.first first is in ap (λ (o : Option Queued). lane_claims claims_at (lane_value (record row { current = o })) thing) is ∙ begins_unclaimed b.0 first.task b.2 thing
+-- A lane of which the request in turn begins claims nothing, and is ready.
+pub row_unclaimed : (row : LaneRow) → ((first : Queued) → row.current ≡ Some first → BeginsSome first) → ClaimsNothing (lane_claims claims_at (lane_value row))
+row_unclaimed row begins thing =
+    row_cases (λ r. ((first : Queued) → r.current ≡ Some first → BeginsSome first) → lane_claims claims_at (lane_value r) thing ≡ 0) (λ waiting begins. refl) (λ first waiting begins. let b = begins first refl in begins_unclaimed b.0 first.task b.1 thing) row begins
 
-row_ready : {D : Type 0} → (script : Requests) (lane : ℕ) (row : LaneRow) (store : StoreValue D) (history : Option History) → IsFreshRow script lane row → IsReadyLane IsReadyTask (lane_value row) store history
-row_ready script lane row store history fresh task has = by_current row.current refl
-  where
-    by_current : (current : Option Queued) → row.current ≡ current → IsReadyTask task store history
-    by_current None is = absurd (let z : None ≡ Some task = sym (ap (option_map (λ (q : Queued). q.task)) is) ∙ has in cc z)
-    by_current (Some first) is =
-        let b = fresh.first first is in
-        let same : Some first.task ≡ Some task = sym (ap (option_map (λ (q : Queued). q.task)) is) ∙ has in
-        subst (λ (t : Task). IsReadyTask t store history) (one_some first.task task same) (begins_ready b.0 first.task store history b.2)
+pub row_ready : {D : Type 0} → (row : LaneRow) (store : StoreValue D) (history : Option History) → ((first : Queued) → row.current ≡ Some first → BeginsSome first) → IsReadyLane IsReadyTask (lane_value row) store history
+row_ready row store history =
+    row_cases (λ r. ((first : Queued) → r.current ≡ Some first → BeginsSome first) → IsReadyLane IsReadyTask (lane_value r) store history) (λ waiting begins task has. absurd (let z : None ≡ Some task = has in cc z))
+    (λ first waiting begins task has. let b = begins first refl in subst (λ (t : Task). IsReadyTask t store history) (one_some first.task task has) (begins_ready b.0 first.task store history b.1)) row
+
+fresh_begins : (script : Requests) (lane : ℕ) (row : LaneRow) → IsFreshRow script lane row → (first : Queued) → row.current ≡ Some first → BeginsSome first
+fresh_begins script lane row fresh first is = let b = fresh.first first is in (b.0, b.2)
 
 -- a lane that hasn't taken up its first task
 abbrev untaken : LaneRow → LaneValue Task
@@ -88,23 +84,14 @@ untaken row = record { queue = queue_in row; task = None }
 
 lane_begins : {D : Type 0} → (script : Requests) (run : Run) (k : ℕ) (row : LaneRow) (store : StoreValue D) (history : Option History) → IsFreshRow script (k + 1) row → LaneAt (stands_in store history) script run [] (unreplied script) (k + 1) (untaken row)
     → LaneAt (stands_in store history) script run [] (unreplied script) (k + 1) (lane_value row)
-lane_begins {D} script run k row store history fresh at = by_current row.current refl
+lane_begins script run k row store history =
+    row_cases (λ r. IsFreshRow script (k + 1) r → LaneAt (stands_in store history) script run [] (unreplied script) (k + 1) (untaken r) → LaneAt (stands_in store history) script run [] (unreplied script) (k + 1) (lane_value r)) (λ waiting fresh at. at)
+    (λ first waiting fresh at. lane_taken_up (stands_in store history) script run [] (unreplied script) (k + 1) (untaken (record { current = Some first; waiting = waiting })) first.task refl (first_begins first waiting (fresh.first first refl)) at) row
   where
-    value_is : (current : Option Queued) → row.current ≡ current → lane_value row ≡ record (untaken row) { task = option_map (λ (q : Queued). q.task) current }
-    value_is current is = ap (λ (o : Option Queued). record (untaken row) { task = option_map (λ (q : Queued). q.task) o }) is
-
-    first_begins : (first : Queued) → row.current ≡ Some first → TakesUp (stands_in store history) script run [] (k + 1) (first.place ∷ map (λ (q : Queued). q.place) row.waiting) first.task
-    first_begins first is request asked unbegun =
-        let b = fresh.first first is in
+    first_begins : (first : Queued) (waiting : List Queued) → WaitsWithTask script (k + 1) first → TakesUp (stands_in store history) script run [] (k + 1) (first.place ∷ map (λ (q : Queued). q.place) waiting) first.task
+    first_begins first waiting b request asked unbegun =
         let same : b.0 ≡ request = ap (λ (q : ℕ × Request). q.1) (one_some (k + 1, b.0) (k + 1, request) (sym b.1 ∙ asked)) in
         begins_standing request first.task store history run first.place (said_by [] first.place) (subst (λ (q : Request). BeginsTask q first.task) same b.2) unbegun
-
-    by_current : (current : Option Queued) → row.current ≡ current → LaneAt (stands_in store history) script run [] (unreplied script) (k + 1) (lane_value row)
-    by_current None is = subst (λ (v : LaneValue Task). LaneAt (stands_in store history) script run [] (unreplied script) (k + 1) v) (sym (value_is None is)) at
-    by_current (Some first) is =
-        subst (λ (v : LaneValue Task). LaneAt (stands_in store history) script run [] (unreplied script) (k + 1) v) (sym (value_is (Some first) is))
-        (lane_taken_up (stands_in store history) script run [] (unreplied script) (k + 1) (untaken row) first.task refl
-        (subst (λ (ps : List ℕ). TakesUp (stands_in store history) script run [] (k + 1) ps first.task) (sym (queue_is row first is)) (first_begins first is)) at)
 
 -- ---- all lanes
 
@@ -141,13 +128,8 @@ none_in_all claims (a ∷ more) thing none =
 none_undamaged : (script : Requests) (run : Run) → run.events ≡ [] → AreUndamaged script run (unreplied script)
 none_undamaged script run empty = record {
   events = λ place lane name uid at. subst (λ (es : List RunEvent). All IsUndamaged (own_events place (record run { events = es }))) (sym empty) (All-nil IsUndamaged);
-  none_told = λ i given has. absurd (no_reply script i given has);
+  none_told = λ i given has. absurd (none_given script i given has);
 }
-  where
-    no_reply : (script : Requests) (i : ℕ) (given : Reply) → HasReply (unreplied script) i given → ⊥
-    no_reply [] i given has = let z : None ≡ Some (Some given) = has in cc z
-    no_reply (asked ∷ script) zero given has = let z : Some None ≡ Some (Some given) = has in cc z
-    no_reply (asked ∷ script) (suc i) given has = no_reply script i given has
 
 pub all_begin : {D : Type 0} → (start : Lists) (script : Requests) (run : Run) (rows : List LaneRow) (store : StoreValue D) (history : Option History) (faults : Faults) → IsAtOpening run store → HasCome run store.map store.drawn (told_calls history) → HasNoTask store → store.stopped ≡ false → ShowsSeen (seen_in store history faults) start → IsFirmAt start (seen_in store history faults)
     → AreFreshRows script rows → HaveLanes script (lanes_of rows) → length rows ≤ 64 → ((place lane : ℕ) (name : List ℕ) (uid : Uid) → slice_get script place ≡ Some (lane, request.Fetch name uid) → FindsMessages start script run history history)
@@ -162,9 +144,9 @@ all_begin {D} start script run rows store history faults at come none runs shows
   quiet = λ still unread. refl;
   accounts = λ still. record {
     adds_up = λ thing. none_claimed store none thing ∙ none_in_all claims_at (lanes_of rows) thing unclaimed;
-    ready = λ k value there. let r = row_of lane_value rows k value there in subst (λ (v : LaneValue Task). IsReadyLane IsReadyTask v store history) r.2 (row_ready script (k + 1) r.0 store history (fresh k r.0 r.1));
+    ready = λ k value there. let r = row_of lane_value rows k value there in subst (λ (v : LaneValue Task). IsReadyLane IsReadyTask v store history) r.2 (row_ready r.0 store history (fresh_begins script (k + 1) r.0 (fresh k r.0 r.1)));
   };
 }
   where
     unclaimed : (k : ℕ) (value : LaneValue Task) → slice_get (lanes_of rows) k ≡ Some value → ClaimsNothing (lane_claims claims_at value)
-    unclaimed k value there = let r = row_of lane_value rows k value there in subst (λ (v : LaneValue Task). ClaimsNothing (lane_claims claims_at v)) r.2 (row_unclaimed script (k + 1) r.0 (fresh k r.0 r.1))
+    unclaimed k value there = let r = row_of lane_value rows k value there in subst (λ (v : LaneValue Task). ClaimsNothing (lane_claims claims_at v)) r.2 (row_unclaimed r.0 (fresh_begins script (k + 1) r.0 (fresh k r.0 r.1)))

@@ -1,9 +1,9 @@
 -- No message that a script fetches is damaged, where the fetch finds the messages of the lists from which it is served.
-use Rattle.std.proofs.Common.{◌≡◌, ◌==◌, ◌+◌, ℕ, Bool, true, false, List, [], ◌∷◌, ◌++◌, map, slice_set, Option, Some, None, refl, sym, ◌∙◌, ap, subst, arith, inl, inr}
-use Rattle.std.specs.Prelude.{◌≢◌, ◌⊎◌, All, slice_get}
+use Rattle.std.proofs.Common.{◌≡◌, ◌==◌, ℕ, Bool, true, false, List, [], ◌∷◌, ◌++◌, slice_set, Option, Some, None, refl, sym, ◌∙◌, ap, subst, inl, inr}
+use Rattle.std.specs.Prelude.{◌≢◌, All, slice_get}
 use Rattle.std.specs.Option.{IfSome, option_or}
-use Rattle.std.proofs.lemmas.Grind.{common_steps}
-use Rattle.std.proofs.lemmas.List.Elements.{All-cons, All-head, All-nil, All-tail, All-weaker}
+use Rattle.std.proofs.lemmas.List.Elements.{All-cons, All-head, All-nil, All-tail, All-weaker, All-push}
+use Rattle.std.proofs.lemmas.Bool.{eq-eqb, eqb-true, false≢true}
 use Rattle.disk_model.specs.Disk.{History}
 use Rattle.mdbox_base.specs.declared.ids.FileNo.{FileNo}
 use Rattle.mdbox_base.specs.declared.ids.Uid.{Uid}
@@ -14,14 +14,14 @@ use Rattle.mdbox_base.specs.declared.replies.Reply.TheVariants as reply
 use Rattle.mdbox_base.specs.declared.requests.Request.{Request}
 use Rattle.mdbox_base.specs.declared.requests.Request.TheVariants as request
 use Rattle.model_lists.specs.Lists.{Lists}
-use Rattle.list_machine.specs.Run.{EventPart, Run, RunEvent, and_then, own_events, First, Compares, PlacesInstance, TakesFile, PlacesMessage, StoresRecord, Last, SecondHalf, GivesBack, StartsOver, RemovesLog, ReadsPiece, Unpins, RemovesFile, MakesTarget, CopiesMessage, Switches, RemovesInstance, ReadsFile}
+use Rattle.list_machine.specs.Run.{EventPart, Run, RunEvent, and_then, own_events, ReadsPiece, Unpins}
 use Rattle.journal.specs.Events.{Around, IsEvent, IsRepliedBy, MayMeet, behind_event, is_piece, last_refusal}
 use Rattle.journal.specs.Journal.{HasReply, IsReplyOf, Requests, refusal_in}
 use Rattle.journal.proofs.OwnEventLemmas.{own_more, own_other}
 use Rattle.serving.specs.Lanes.{replies_behind}
 use Rattle.serving.proofs.LaneLemmas.{get_set_other, get_set_same, nat_cases, one_some}
 use Rattle.store_core.specs.Value.{StoreValue}
-use Rattle.mail_fetch.specs.Stages.{HasPinned, HasReadAllBut, IsAtFetch, IsTrueReply, ReadPiece, UnpinsNext}
+use Rattle.mail_fetch.specs.Stages.{HasReadAllBut, IsAtFetch, IsTrueReply, ReadPiece, UnpinsNext}
 use Rattle.mail_fetch.specs.declared.parts.StoredAt.{StoredAt}
 use Rattle.mail_fetch.specs.declared.task.FetchStage.{FetchStage}
 use Rattle.mail_fetch.specs.declared.task.FetchStage.TheVariants as stage
@@ -34,14 +34,6 @@ use Rattle.lane_tasks.specs.declared.task.Task.TheVariants as task
 use Rattle.lanes.specs.Going.{AreUndamaged, TellsDamage, IsUndamaged}
 
 -- ---- the last of a list
-
-end_of_all : {X : Type 0} → (P : X → Type 0) (xs : List X) (x : X) → All P (xs ++ x ∷ []) → P x
-end_of_all P [] x all = All-head P x [] all
-end_of_all P (a ∷ xs) x all = end_of_all P xs x (All-tail P a (xs ++ x ∷ []) all)
-
-all_and_one : {X : Type 0} → (P : X → Type 0) (xs : List X) (x : X) → All P xs → P x → All P (xs ++ x ∷ [])
-all_and_one P [] x all one = All-cons P x [] one (All-nil P)
-all_and_one P (a ∷ xs) x all one = All-cons P a (xs ++ x ∷ []) (All-head P a xs all) (all_and_one P xs x (All-tail P a xs all) one)
 
 pub not_empty : {X : Type 0} → (xs : List X) (x : X) → xs ++ x ∷ [] ≡ [] → ⊥
 not_empty [] x e = cc e
@@ -76,7 +68,7 @@ unpins_undamaged from given octets own (inl all) told = read_but from 0 own all.
 unpins_undamaged from given octets own (inr (why, front, last, refused, is_piece, pinned, read, failed)) told =
     subst (λ (es : List RunEvent). All IsUndamaged es) (sym pinned.own_are)
     (All-cons IsUndamaged pinned.pin (front ++ last ∷ []) (unrefused pinned.pin pinned.unrefused)
-    (all_and_one IsUndamaged front last (read_undamaged front read) (λ damage. true_refusal octets given why told refused (subst TellsDamage failed.refused_is damage))))
+    (All-push IsUndamaged front last (read_undamaged front read) (λ damage. true_refusal octets given why told refused (subst TellsDamage failed.refused_is damage))))
 
 -- a fetch that goes on has met no damage
 fetch_undamaged : (at : FetchStage) (stopped : Bool) (history : Option History) (run : Run) (place : ℕ) (said : List Reply) → IsAtFetch at stopped history run place said → All IsUndamaged (own_events place run)
@@ -85,47 +77,22 @@ fetch_undamaged (stage.Reading region) stopped history run place said at = read_
 fetch_undamaged (stage.Unpinning from given) stopped history run place said at = unpins_undamaged from given at.1.0 (own_events place run) at.0 at.1.2
 fetch_undamaged (stage.Removing file given) stopped history run place said at =
     let r = at.0 in
-    subst (λ (es : List RunEvent). All IsUndamaged es) (sym r.own_are) (all_and_one IsUndamaged r.front r.last (unpins_undamaged r.from given at.2.0 r.front r.unpinned at.2.2) (unrefused r.last r.unrefused))
+    subst (λ (es : List RunEvent). All IsUndamaged es) (sym r.own_are) (All-push IsUndamaged r.front r.last (unpins_undamaged r.from given at.2.0 r.front r.unpinned at.2.2) (unrefused r.last r.unrefused))
 
 pub stands_undamaged : {D : Type 0} → (t : Task) (store : StoreValue D) (history : Option History) (name : List ℕ) (uid : Uid) (run : Run) (place : ℕ) (said : List Reply) → StandsTask t store history (request.Fetch name uid) run place said → All IsUndamaged (own_events place run)
 stands_undamaged (task.Ops t) store history name uid run place said s = begun t.stage s.at
   where
     begun : (at : TaskStage) → IsAt at run place said → All IsUndamaged (own_events place run)
     begun ops_stage.First at = subst (λ (es : List RunEvent). All IsUndamaged es) (sym at.0) (All-nil IsUndamaged)
-stands_undamaged (task.Counts t) store history name uid run place said s = absurd (let z : request.Fetch name uid ≡ request.Counts = s.is_of in cc z)
-stands_undamaged (task.Make t) store history name uid run place said s = absurd (let z : request.Fetch name uid ≡ request.Make t.name = s.is_of in cc z)
-stands_undamaged (task.Copy t) store history name uid run place said s = absurd (let z : request.Fetch name uid ≡ request.Copy t.name t.uid t.target = s.is_of in cc z)
-stands_undamaged (task.Move t) store history name uid run place said s = absurd (let z : request.Fetch name uid ≡ request.Move t.name t.uid t.target = s.is_of in cc z)
-stands_undamaged (task.Expunge t) store history name uid run place said s = absurd (let z : request.Fetch name uid ≡ request.Expunge t.name t.uid = s.is_of in cc z)
-stands_undamaged (task.Delete t) store history name uid run place said s = absurd (let z : request.Fetch name uid ≡ request.Delete t.name = s.is_of in cc z)
-stands_undamaged (task.Rename t) store history name uid run place said s = absurd (let z : request.Fetch name uid ≡ request.Rename t.name t.target = s.is_of in cc z)
 stands_undamaged (task.Fetch t) store history name uid run place said s = fetch_undamaged t.stage store.stopped history run place said s.at
 stands_undamaged (task.Deliver t) store history name uid run place said s = absurd s.is_of
-stands_undamaged (task.Purge t) store history name uid run place said s = absurd (let z : request.Fetch name uid ≡ request.Purge = s.is_of in cc z)
-stands_undamaged (task.Resync t) store history name uid run place said s = absurd (let z : request.Fetch name uid ≡ request.Resync = s.is_of in cc z)
+stands_undamaged t store history name uid run place said s = absurd (cc s.is_of)
 
 -- ---- an event
 
 piece_of : (part : EventPart) → is_piece part ≡ true → part ≡ ReadsPiece
-piece_of First is = absurd (let z : false ≡ true = is in cc z)
-piece_of Compares is = absurd (let z : false ≡ true = is in cc z)
-piece_of PlacesInstance is = absurd (let z : false ≡ true = is in cc z)
-piece_of (TakesFile new) is = absurd (let z : false ≡ true = is in cc z)
-piece_of PlacesMessage is = absurd (let z : false ≡ true = is in cc z)
-piece_of StoresRecord is = absurd (let z : false ≡ true = is in cc z)
-piece_of Last is = absurd (let z : false ≡ true = is in cc z)
-piece_of SecondHalf is = absurd (let z : false ≡ true = is in cc z)
-piece_of GivesBack is = absurd (let z : false ≡ true = is in cc z)
-piece_of StartsOver is = absurd (let z : false ≡ true = is in cc z)
-piece_of RemovesLog is = absurd (let z : false ≡ true = is in cc z)
 piece_of ReadsPiece is = refl
-piece_of Unpins is = absurd (let z : false ≡ true = is in cc z)
-piece_of RemovesFile is = absurd (let z : false ≡ true = is in cc z)
-piece_of MakesTarget is = absurd (let z : false ≡ true = is in cc z)
-piece_of CopiesMessage is = absurd (let z : false ≡ true = is in cc z)
-piece_of Switches is = absurd (let z : false ≡ true = is in cc z)
-piece_of RemovesInstance is = absurd (let z : false ≡ true = is in cc z)
-piece_of ReadsFile is = absurd (let z : false ≡ true = is in cc z)
+piece_of part is = absurd (false≢true is)
 
 -- a fetch that met damage goes on
 damage_goes_on : (around behind : Around) (run : Run) (lists : Lists) (name : List ℕ) (uid : Uid) (event : RunEvent) → IsEvent around behind run lists (request.Fetch name uid) event → TellsDamage event.refused → event.reply ≡ None
@@ -148,19 +115,7 @@ damage_goes_on around behind run lists name uid event is damage = by_refused eve
 -- only a fetch replies damage
 damaged_fetch : (asked : Request) (steps : List Reply) (file : FileNo) (offset : ℕ) → IsReplyOf asked steps (reply.Refused (refusal.Damaged file offset)) → (name : List ℕ) × (uid : Uid) × (asked ≡ request.Fetch name uid)
 damaged_fetch (request.Fetch name uid) steps file offset is = (name, uid, refl)
-damaged_fetch (request.List name) steps file offset is = absurd is
-damaged_fetch (request.Flag name uid flags) steps file offset is = absurd is
-damaged_fetch (request.Keywords name uid words) steps file offset is = absurd is
-damaged_fetch (request.Make name) steps file offset is = absurd is
-damaged_fetch (request.Delete name) steps file offset is = absurd is
-damaged_fetch (request.Rename name target) steps file offset is = absurd is
-damaged_fetch (request.Deliver name time octets) steps file offset is = absurd is
-damaged_fetch (request.Copy name uid target) steps file offset is = absurd is
-damaged_fetch (request.Move name uid target) steps file offset is = absurd is
-damaged_fetch (request.Expunge name uid) steps file offset is = absurd is
-damaged_fetch request.Counts steps file offset is = absurd is
-damaged_fetch request.Purge steps file offset is = absurd is
-damaged_fetch request.Resync steps file offset is = absurd is
+damaged_fetch asked steps file offset is = absurd is
 
 -- none is met by an event, nor told by a reply
 pub undamaged_on : (around behind : Around) (script : Requests) (run : Run) (replies : List (Option Reply)) (lane place : ℕ) (asked : Request) (lists : Lists) (event : RunEvent) (ended : Option Reply) (steps : List Reply) → slice_get script place ≡ Some (lane, asked) → slice_get replies place ≡ Some None → event.request ≡ place → event.reply ≡ ended
@@ -171,12 +126,6 @@ undamaged_on around behind script run replies lane place asked lists event ended
   none_told = λ i given has. by_reply ended refl i given has;
 }
   where
-    same : (a b : ℕ) → (a == b) ≡ true → a ≡ b
-    same a b e = grind (arith, common_steps, e)
-
-    test : (a b : ℕ) → a ≡ b → (a == b) ≡ true
-    test a b e = grind (arith, common_steps, e)
-
     -- an event that answers a fetch met none
     answered : (given : Reply) (name : List ℕ) (uid : Uid) → ended ≡ Some given → asked ≡ request.Fetch name uid → IsUndamaged event
     answered given name uid e fetch damage = let z : None ≡ Some given = sym (damage_goes_on around behind run lists name uid event (subst (λ (q : Request). IsEvent around behind run lists q event) fetch is) damage) ∙ (gives ∙ e) in cc z
@@ -187,13 +136,13 @@ undamaged_on around behind script run replies lane place asked lists event ended
         by_end : (o : Option Reply) → ended ≡ o → All IsUndamaged (own_events place (and_then run event))
         by_end None e = stands e name uid fetch
         by_end (Some given) e =
-            subst (λ (es : List RunEvent). All IsUndamaged es) (sym (own_more place run event (test event.request place own)))
-            (all_and_one IsUndamaged (own_events place run) event (old.events place lane name uid (there ∙ ap (λ (q : Request). Some (lane, q)) fetch)) (answered given name uid e fetch))
+            subst (λ (es : List RunEvent). All IsUndamaged es) (sym (own_more place run event (eq-eqb event.request place own)))
+            (All-push IsUndamaged (own_events place run) event (old.events place lane name uid (there ∙ ap (λ (q : Request). Some (lane, q)) fetch)) (answered given name uid e fetch))
 
     by_test : (other in_lane : ℕ) (name : List ℕ) (uid : Uid) → slice_get script other ≡ Some (in_lane, request.Fetch name uid) → (b : Bool) → (event.request == other) ≡ b → All IsUndamaged (own_events other (and_then run event))
     by_test other in_lane name uid at false e = subst (λ (es : List RunEvent). All IsUndamaged es) (sym (own_other other run event e)) (old.events other in_lane name uid at)
     by_test other in_lane name uid at true e =
-        let here : place ≡ other = sym own ∙ same event.request other e in
+        let here : place ≡ other = sym own ∙ eqb-true event.request other e in
         let asks : (lane, asked) ≡ (in_lane, request.Fetch name uid) = one_some (lane, asked) (in_lane, request.Fetch name uid) (sym there ∙ (ap (slice_get script) here ∙ at)) in
         subst (λ (n : ℕ). All IsUndamaged (own_events n (and_then run event))) here (fetched name uid (ap (λ (q : ℕ × Request). q.1) asks))
 
@@ -201,7 +150,7 @@ undamaged_on around behind script run replies lane place asked lists event ended
     none_refused : (why : Refusal) → ended ≡ Some (reply.Refused why) → TellsDamage (Some why) → ⊥
     none_refused (refusal.Damaged file offset) e damage =
         let fetch = damaged_fetch asked steps file offset (replied (reply.Refused (refusal.Damaged file offset)) e) in
-        let all = subst (λ (es : List RunEvent). All IsUndamaged es) (own_more place run event (test event.request place own)) (fetched fetch.0 fetch.1 fetch.2) in
+        let all = subst (λ (es : List RunEvent). All IsUndamaged es) (own_more place run event (eq-eqb event.request place own)) (fetched fetch.0 fetch.1 fetch.2) in
         let by : IsRepliedBy (own_events place run ++ event ∷ []) (Some (reply.Refused (refusal.Damaged file offset))) =
         subst (λ (o : Option Reply). IsRepliedBy (own_events place run ++ event ∷ []) o) (gives ∙ e) (subst (λ (n : ℕ). IsRepliedBy (own_events n run ++ event ∷ []) event.reply) own is.replied) in
         last_undamaged (own_events place run ++ event ∷ []) all (subst TellsDamage (sym by) tt)
@@ -213,10 +162,9 @@ undamaged_on around behind script run replies lane place asked lists event ended
 
     by_reply : (o : Option Reply) → ended ≡ o → (i : ℕ) (given : Reply) → HasReply (replies_behind o place replies) i given → TellsDamage (refusal_in given) → ⊥
     by_reply None e i given has = old.none_told i given has
-    by_reply (Some one) e i given has = by_case (nat_cases place i)
-      where
-        by_case : (place ≡ i) ⊎ (place ≢ i) → TellsDamage (refusal_in given) → ⊥
-        by_case (inl at) =
-            let mine : Some one ≡ Some given = one_some (Some one) (Some given) (sym (get_set_same replies place (Some one) None unanswered) ∙ (ap (slice_get (slice_set replies place (Some one))) at ∙ has)) in
-            none_given given (e ∙ mine)
-        by_case (inr apart) = old.none_told i given (sym (get_set_other replies place i (Some one) apart) ∙ has)
+    by_reply (Some one) e i given has = elim (nat_cases place i) [
+      | inl at ↦
+          let mine : Some one ≡ Some given = one_some (Some one) (Some given) (sym (get_set_same replies place (Some one) None unanswered) ∙ (ap (slice_get (slice_set replies place (Some one))) at ∙ has)) in
+          none_given given (e ∙ mine)
+      | inr apart ↦ old.none_told i given (sym (get_set_other replies place i (Some one) apart) ∙ has)
+    ]

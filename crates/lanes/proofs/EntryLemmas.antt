@@ -1,12 +1,11 @@
 -- The entries of a journal as steps are added to it, and how many there are.
-use Rattle.std.proofs.Common.{◌≡◌, ◌<◌, ◌≤◌, ◌+◌, ◌-◌, ◌*◌, ◌==◌, ℕ, zero, suc, Bool, true, false, cond, List, [], ◌∷◌, ◌++◌, map, Option, Some, None, refl, sym, ◌∙◌, ap, subst, arith}
-use Rattle.std.specs.Prelude.{◌≢◌, All, length, slice_get, filter}
+use Rattle.std.proofs.Common.{◌≡◌, ◌<◌, ◌≤◌, ◌+◌, ◌*◌, ◌==◌, ℕ, zero, suc, Bool, true, false, cond, List, [], ◌∷◌, ◌++◌, map, Option, Some, refl, sym, ◌∙◌, ap, subst, arith}
+use Rattle.std.specs.Prelude.{All, length, slice_get}
 use Rattle.std.proofs.lemmas.Grind.{common_steps}
 use Rattle.std.proofs.lemmas.List.Elements.{All-cons, All-head, All-nil, All-tail}
-use Rattle.disk_model.specs.Disk.{History, IsTold, IsMoment, told_calls}
-use Rattle.mdbox_base.specs.declared.script.Half.{Half}
+use Rattle.disk_model.specs.Disk.{History, IsTold}
 use Rattle.mdbox_base.specs.declared.script.JournalEntry.{JournalEntry}
-use Rattle.journal.specs.Journal.{AreEntriesOf, AreSteps, IsFirstPart, JournalStep, Requests, StandInOrder, halves_of, left_by, moment_of, steps_of}
+use Rattle.journal.specs.Journal.{AreEntriesOf, AreSteps, IsFirstPart, JournalStep, Requests, StandInOrder, halves_of, moment_of, steps_of}
 use Rattle.list_machine.specs.Run.{Run, RunEvent, and_then}
 use Rattle.model_lists.specs.Lists.{Lists}
 use Rattle.mdbox_base.specs.declared.requests.Request.{Request}
@@ -16,7 +15,7 @@ use Rattle.std.proofs.lemmas.List.{length-append, length-map}
 use Rattle.std.proofs.lemmas.Option.{slice_get_within}
 use Rattle.journal.proofs.JournalLemmas.{get_more}
 use Rattle.journal.proofs.ReachedLemmas.{get_last, within_some}
-use Rattle.serving.proofs.ServingLemmas.{all_at, some_at}
+use Rattle.serving.proofs.ServingLemmas.{some_at}
 use Rattle.lanes.specs.Worlds.{AreEntriesAt, IsEntryAt}
 
 -- ---- entries
@@ -24,8 +23,7 @@ use Rattle.lanes.specs.Worlds.{AreEntriesAt, IsEntryAt}
 pub entries_as_many : (history : Option History) (began : ℕ) (moment : JournalStep → ℕ) (steps : List JournalStep) (entries : List JournalEntry) → AreEntriesAt history began moment steps entries → length entries ≡ length steps
 entries_as_many history began moment [] [] are = refl
 entries_as_many history began moment (s ∷ steps) (e ∷ entries) are = let h = entries_as_many history began moment steps entries are.1 in omega (arith, h)
-entries_as_many history began moment [] (e ∷ entries) are = absurd are
-entries_as_many history began moment (s ∷ steps) [] are = absurd are
+entries_as_many history began moment steps entries are = absurd are
 
 entry_stays : (before after : Option History) (began old new : ℕ) (step : JournalStep) (entry : JournalEntry) → (IsTold after → IsTold before) → old ≡ new → IsEntryAt before began old step entry → IsEntryAt after began new step entry
 entry_stays before after began old new step entry told same e =
@@ -35,20 +33,17 @@ pub entries_stay : (before after : Option History) (began : ℕ) (old new : Jour
 entries_stay before after began old new [] [] told same are = tt
 entries_stay before after began old new (s ∷ steps) (e ∷ entries) told same are =
     (entry_stays before after began (old s) (new s) s e told (All-head (λ (x : JournalStep). old x ≡ new x) s steps same) are.0, entries_stay before after began old new steps entries told (All-tail (λ (x : JournalStep). old x ≡ new x) s steps same) are.1)
-entries_stay before after began old new [] (e ∷ entries) told same are = absurd are
-entries_stay before after began old new (s ∷ steps) [] told same are = absurd are
+entries_stay before after began old new steps entries told same are = absurd are
 
 pub entries_join : (history : Option History) (began : ℕ) (moment : JournalStep → ℕ) (steps more : List JournalStep) (entries last : List JournalEntry) → AreEntriesAt history began moment steps entries → AreEntriesAt history began moment more last → AreEntriesAt history began moment (steps ++ more) (entries ++ last)
 entries_join history began moment [] more [] last are join = join
 entries_join history began moment (s ∷ steps) more (e ∷ entries) last are join = (are.0, entries_join history began moment steps more entries last are.1 join)
-entries_join history began moment [] more (e ∷ entries) last are join = absurd are
-entries_join history began moment (s ∷ steps) more [] last are join = absurd are
+entries_join history began moment steps more entries last are join = absurd are
 
 pub entries_told : (history : History) (began : ℕ) (run : Run) (steps : List JournalStep) (entries : List JournalEntry) → AreEntriesAt (Some history) began (moment_of run) steps entries → AreEntriesOf run began steps entries
 entries_told history began run [] [] are = tt
 entries_told history began run (s ∷ steps) (e ∷ entries) are = (record { lane_is = are.0.lane_is; request_is = are.0.request_is; half_is = are.0.half_is; calls_are = are.0.calls_are tt }, entries_told history began run steps entries are.1)
-entries_told history began run [] (e ∷ entries) are = absurd are
-entries_told history began run (s ∷ steps) [] are = absurd are
+entries_told history began run steps entries are = absurd are
 
 -- ---- moments
 
@@ -115,19 +110,7 @@ front_least xs ys part = let h : length (xs ++ part.0) ≡ length ys = ap length
 
 halves_two : (q : Request) → length (halves_of q) ≤ 2
 halves_two (request.Move name uid target) = omega arith
-halves_two (request.Deliver name time message) = omega arith
-halves_two (request.List name) = omega arith
-halves_two (request.Fetch name uid) = omega arith
-halves_two (request.Flag name uid flags) = omega arith
-halves_two (request.Keywords name uid words) = omega arith
-halves_two (request.Copy name uid target) = omega arith
-halves_two (request.Expunge name uid) = omega arith
-halves_two (request.Make name) = omega arith
-halves_two (request.Delete name) = omega arith
-halves_two (request.Rename name target) = omega arith
-halves_two request.Counts = omega arith
-halves_two request.Purge = omega arith
-halves_two request.Resync = omega arith
+halves_two q = omega arith
 
 asked_within : (run : Run) (script : Requests) (old : Lists) (journal : List JournalStep) → AreSteps run script old journal → All (λ s. s.request < length script) journal
 asked_within run script old [] s = All-nil (λ (x : JournalStep). x.request < length script)

@@ -3,7 +3,7 @@
 use Rattle.std.specs.Prelude.{◌⊎◌, ◌==◌, cond, filter, length, slice_get}
 use Rattle.std.proofs.Common.{◌≡◌, ◌≤◌, ◌<◌, ℕ, Bool, true, false, List, [], ◌∷◌, map, Option, Some, None, refl, sym, ◌∙◌, ap, subst, arith, inl, inr}
 use Rattle.std.specs.Option.{IfSome}
-use Rattle.std.proofs.lemmas.Bool.{eq-eqb}
+use Rattle.std.proofs.lemmas.Bool.{eq-eqb, false_from_ne_true}
 use Rattle.std.proofs.lemmas.Option.{slice_get_within}
 use Rattle.disk_model.specs.Disk.{History}
 use Rattle.mdbox_base.specs.declared.ids.Uid.{Uid}
@@ -56,13 +56,9 @@ UsesTaken store run = (file : ℕ) → 1 ≤ file → is_taken run file ≡ true
 pub finds_room : {D : Type 0} → (t : Task) (asked : Request) (store : StoreValue D) (history : Option History) (run : Run) → IsStore history store → AreFilesInOrder store.files → UsesTaken store run → FindsRoom (around_at t asked store nothing_around) run
 finds_room {D} t asked store history run is ordered uses = by_room (around_at t asked store nothing_around).room refl
   where
-    by_test : (file : ℕ) (b : Bool) → IsFreeToTake file store → is_taken run file ≡ b → b ≡ false
-    by_test file true free taken = absurd (free_unused store file free (uses file free.some taken))
-    by_test file false free taken = refl
-
     by_room : (o : Option ℕ) → (around_at t asked store nothing_around).room ≡ o → IfSome o (λ file. is_taken run file ≡ false)
     by_room None found = tt
-    by_room (Some file) found = by_test file (is_taken run file) (found_free t asked store history nothing_around file is ordered refl found) refl
+    by_room (Some file) found = let free = found_free t asked store history nothing_around file is ordered refl found in false_from_ne_true (is_taken run file) (λ taken. free_unused store file free (uses file free.some taken))
 
 pub uses_taken : {D : Type 0} → (start : Lists) (script : Requests) (run : Run) (journal : List JournalStep) (broken : Broken) (replies : List (Option Reply)) (began now : Seen) (store : StoreValue D) (history : Option History) (lanes : List (LaneValue Task))
     → IsServing (stands_in store history) start script run journal broken replies began now lanes → HaveLanes script lanes → AddsUp store (map (lane_claims claims_at) lanes) → UsesTaken store run
@@ -103,9 +99,7 @@ files_found around after script start run journal began history place lane asked
 
 answers_at : {D : Type 0} → (now : FetchStage) (name : List ℕ) (uid : Uid) (lists : Lists) (store : StoreValue D) (history : Option History) (run : Run) (place : ℕ) (said : List Reply) → IsStore history store → store.stopped ≡ false → IsAtFetch now store.stopped history run place said → (own_events place run ≡ [] → ReadsSafe lists history) → CanFetch now name uid lists store.map history
 answers_at stage.First name uid lists store history run place said opened runs at safe = safe_fetched stage.First name uid store history lists opened runs (safe at.0)
-answers_at (stage.Reading region) name uid lists store history run place said opened runs at safe = tt
-answers_at (stage.Unpinning from given) name uid lists store history run place said opened runs at safe = tt
-answers_at (stage.Removing file given) name uid lists store history run place said opened runs at safe = tt
+answers_at now name uid lists store history run place said opened runs at safe = tt
 
 -- Only a fetch answers by the files of messages.
 pub can_answer : {D : Type 0} → (t : Task) (asked : Request) (lists : Lists) (store : StoreValue D) (history : Option History) (run : Run) (place : ℕ) (said : List Reply) → IsStore history store → store.stopped ≡ false → StandsTask t store history asked run place said

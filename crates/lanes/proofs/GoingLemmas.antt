@@ -1,10 +1,10 @@
 -- A script that lanes of tasks serve goes on with an event of any lane.
-use Rattle.std.proofs.Common.{◌≡◌, ◌<◌, ◌≤◌, ◌+◌, ℕ, zero, suc, Bool, true, false, List, [], ◌∷◌, map, slice_set, All, Option, Some, None, refl, sym, ◌∙◌, ap, subst, arith, inl, inr}
+use Rattle.std.proofs.Common.{◌≡◌, ◌<◌, ◌≤◌, ◌+◌, ℕ, zero, suc, true, false, List, [], ◌∷◌, map, slice_set, All, Option, Some, None, refl, sym, ◌∙◌, ap, subst, arith, inl, inr}
 use Rattle.std.specs.Option.{IfSome}
 use Rattle.std.specs.Prelude.{◌≢◌, ◌⊎◌, ◌++◌, is_some, length, slice_get, option_map}
 use Rattle.std.proofs.lemmas.Option.{slice_get-map}
 use Rattle.std.proofs.lemmas.List.{length-set}
-use Rattle.std.proofs.lemmas.List.Elements.{All-cons, All-head, All-tail, All-nil}
+use Rattle.std.proofs.lemmas.List.Elements.{All-cons, All-head, All-tail, All-nil, All-pop, All-weaker}
 use Rattle.disk_model.specs.Disk.{History, Faults, told_calls}
 use Rattle.disk_model.specs.FaultCounts.{NoFault}
 use Rattle.mdbox_base.specs.declared.progress.Did.{Did}
@@ -35,10 +35,12 @@ use Rattle.task_claims.specs.Leaving.{LeavesOthers}
 use Rattle.task_steps.specs.Serves.{BreaksBy, IsTurn}
 use Rattle.task_steps.specs.Step.{DidEvent, FaultsGrow, FindsRoom, IsFault, Seen, Went, and_told, ended_by}
 use Rattle.mail_fetch.specs.Task.{seen_in}
+use Rattle.lane_tasks.proofs.StepLemmas.{ran_before}
 use Rattle.lane_tasks.specs.Clause.{CanAnswer, FindsAround, PassesBy, SparesTask, TellsRun, around_at}
 use Rattle.lane_tasks.specs.Tasks.{BeginsTask, IsReadyTask, StandsTask, claims_at, did_of}
 use Rattle.lane_tasks.specs.declared.task.Task.{Task}
 use Rattle.lane_tasks.proofs.StandLemmas.{begins_ready, begins_standing, begins_unclaimed, task_stable, task_stands}
+use Rattle.lanes.proofs.KeptLemmas.{map_set}
 use Rattle.lanes.specs.Going.{AddsEvent, AreWaiting, IsGoing, IsStepOf, WaitsWithTask, halves_told, stands_in}
 use Rattle.lanes.specs.Worlds.{BeginsSome}
 use Rattle.lanes.specs.Rows.{LaneRow, RowGoesOn, lane_value, lanes_of, next_in_turn, queue_in, after_event}
@@ -46,20 +48,26 @@ use Rattle.lanes.specs.declared.lane.LaneEvent.{LaneEvent}
 use Rattle.lanes.specs.declared.lane.Queued.{Queued}
 use Rattle.lanes.proofs.DamageLemmas.{not_empty, stands_undamaged, undamaged_on}
 use Rattle.lanes.proofs.FindingLemmas.{can_answer, files_found, finds_room, tells_run, uses_taken}
-use Rattle.lanes.proofs.SparedLemmas.{HasComeBeside, all_last, last_push, passes_in_run, refused_stopped, serves_as, spares_all, stands_then}
+use Rattle.lanes.proofs.SparedLemmas.{HasComeBeside, last_push, passes_in_run, refused_stopped, serves_as, spares_all, stands_then}
 use Rattle.lanes.proofs.TellsUsesLemmas.{tells_uses}
 
 -- ---- rows
+
+-- a lane has no request in turn, or one
+pub row_cases : (P : LaneRow → Type 0) → ((waiting : List Queued) → P (record { current = None; waiting = waiting })) → ((first : Queued) (waiting : List Queued) → P (record { current = Some first; waiting = waiting })) → (row : LaneRow) → P row
+row_cases P idle busy row = by_current row.current
+  where
+    by_current : (current : Option Queued) → P (record { current = current; waiting = row.waiting })
+    by_current None = idle row.waiting
+    by_current (Some first) = busy first row.waiting
 
 pub value_at : (rows : List LaneRow) (k : ℕ) (row : LaneRow) → slice_get rows k ≡ Some row → slice_get (lanes_of rows) k ≡ Some (lane_value row)
 value_at rows k row there = slice_get-map lane_value rows k ∙ ap (λ (o : Option LaneRow). option_map lane_value o) there
 
 pub rows_set : (rows : List LaneRow) (k : ℕ) (now : LaneRow) → lanes_of (slice_set rows k now) ≡ slice_set (lanes_of rows) k (lane_value now)
-rows_set [] k now = refl
-rows_set (a ∷ more) zero now = refl
-rows_set (a ∷ more) (suc k) now = ap (λ (vs : List (LaneValue Task)). lane_value a ∷ vs) (rows_set more k now)
+rows_set = map_set lane_value
 
-set_twice : {X : Type 0} → (xs : List X) (k : ℕ) (x y : X) → slice_set (slice_set xs k x) k y ≡ slice_set xs k y
+pub set_twice : {X : Type 0} → (xs : List X) (k : ℕ) (x y : X) → slice_set (slice_set xs k x) k y ≡ slice_set xs k y
 set_twice [] k x y = refl
 set_twice (a ∷ more) zero x y = refl
 set_twice (a ∷ more) (suc k) x y = ap (λ (vs : List _). a ∷ vs) (set_twice more k x y)
@@ -83,8 +91,7 @@ next_ready (next ∷ rest) store history are task has = let b = All-head BeginsS
 
 -- requests that wait in a script begin
 pub begin_some : (script : Requests) (lane : ℕ) (waiting : List Queued) → AreWaiting script lane waiting → All BeginsSome waiting
-begin_some script lane [] are = All-nil BeginsSome
-begin_some script lane (next ∷ rest) are = let b = All-head (WaitsWithTask script lane) next rest are in All-cons BeginsSome next rest (b.0, b.2) (begin_some script lane rest (All-tail (WaitsWithTask script lane) next rest are))
+begin_some script lane = All-weaker (WaitsWithTask script lane) BeginsSome (λ queued waits. (waits.0, waits.2))
 
 pub next_waiting : (script : Requests) (lane : ℕ) (waiting : List Queued) → AreWaiting script lane waiting → AreWaiting script lane (next_in_turn waiting).waiting
 next_waiting script lane [] are = All-nil (WaitsWithTask script lane)
@@ -110,14 +117,6 @@ in_turn start script run journal broken replies began now rows k row first store
     (t.0.0, t.0.1, subst (λ (o : Option Task). LaneStands (stands_in store history) o t.0.0 run first.place (said_by journal first.place)) (task_is row first was) t.0.2)
 
 -- ---- other lanes
-
--- a store that runs after an event ran before it
-ran_before : (old new : Seen) → (old.stopped ≡ true → new ≡ record old { pins = new.pins }) → new.stopped ≡ false → old.stopped ≡ false
-ran_before old new still runs = by_test old.stopped refl
-  where
-    by_test : (b : Bool) → old.stopped ≡ b → old.stopped ≡ false
-    by_test true is = absurd (let e : new.stopped ≡ old.stopped = ap (λ (s : Seen). s.stopped) (still is) in let z : true ≡ false = sym is ∙ (sym e ∙ runs) in cc z)
-    by_test false is = is
 
 others_stand : {D : Type 0} → (rows : List LaneRow) (k : ℕ) (row : LaneRow) (first : Queued) (next : Task) (old new : StoreValue D) (before after : Option History) (faults : Faults) → slice_get rows k ≡ Some row → row.current ≡ Some first → (new.stopped ≡ false → old.stopped ≡ false)
     → (new.stopped ≡ false → MovesClaims (claims_at first.task) (claims_at next) old new) → (new.stopped ≡ false → LeavesOthers (claims_at first.task) old new before after) → (old.stopped ≡ false → LanesAccount claims_at IsReadyTask old before (lanes_of rows))
@@ -176,9 +175,7 @@ serves_row start script run journal broken replies began now rows k row first ne
 -- ---- all lanes
 
 pub as_many : (rows : List LaneRow) (k : ℕ) (now : LaneRow) → length (lanes_of (slice_set rows k now)) ≡ length (lanes_of rows)
-as_many [] k now = refl
-as_many (a ∷ more) zero now = refl
-as_many (a ∷ more) (suc k) now = let h = as_many more k now in omega (arith, h)
+as_many rows k now = ap length (rows_set rows k now) ∙ length-set (lanes_of rows) k (lane_value now)
 
 waiting_behind : (script : Requests) (lane : ℕ) (ended : Option Reply) (first : Queued) (waiting : List Queued) → AreWaiting script lane waiting → AreWaiting script lane (after_event ended first waiting).waiting
 waiting_behind script lane None first waiting are = are
@@ -186,13 +183,12 @@ waiting_behind script lane (Some given) first waiting are = next_waiting script 
 
 pub all_waiting : (script : Requests) (rows : List LaneRow) (k : ℕ) (row now : LaneRow) → slice_get rows k ≡ Some row → AreWaiting script (k + 1) now.waiting → ((j : ℕ) (other : LaneRow) → slice_get rows j ≡ Some other → AreWaiting script (j + 1) other.waiting)
     → (j : ℕ) (other : LaneRow) → slice_get (slice_set rows k now) j ≡ Some other → AreWaiting script (j + 1) other.waiting
-all_waiting script rows k row now there own all j other is = by_case (nat_cases k j)
-  where
-    by_case : (k ≡ j) ⊎ (k ≢ j) → AreWaiting script (j + 1) other.waiting
-    by_case (inl e) =
-        let same : now ≡ other = one_some now other (sym (get_set_same rows k now row there) ∙ (ap (λ (n : ℕ). slice_get (slice_set rows k now) n) e ∙ is)) in
-        subst (λ (n : ℕ). AreWaiting script (n + 1) other.waiting) e (subst (λ (r : LaneRow). AreWaiting script (k + 1) r.waiting) same own)
-    by_case (inr apart) = all j other (sym (get_set_other rows k j now apart) ∙ is)
+all_waiting script rows k row now there own all j other is = elim (nat_cases k j) [
+  | inl e ↦
+      let same : now ≡ other = one_some now other (sym (get_set_same rows k now row there) ∙ (ap (λ (n : ℕ). slice_get (slice_set rows k now) n) e ∙ is)) in
+      subst (λ (n : ℕ). AreWaiting script (n + 1) other.waiting) e (subst (λ (r : LaneRow). AreWaiting script (k + 1) r.waiting) same own)
+  | inr apart ↦ all j other (sym (get_set_other rows k j now apart) ∙ is)
+]
 
 -- ---- the store
 
@@ -267,10 +263,6 @@ halves_made (did.Broken half) request run lists left event answer old new w = no
 -- an event that was refused otherwise than by a read fault
 abbrev unread_event : RunEvent → Type 0
 unread_event event = event.refused ≢ Some refusal.ReadFault
-
-all_front : {X : Type 0} → (P : X → Type 0) (xs : List X) (x : X) → All P (xs ++ x ∷ []) → All P xs
-all_front P [] x all = All-nil P
-all_front P (a ∷ xs) x all = All-cons P a xs (All-head P a (xs ++ x ∷ []) all) (all_front P xs x (All-tail P a (xs ++ x ∷ []) all))
 
 -- a store in which an append fails ran before
 broken_ran : (half : Half) (request : Request) (run : Run) (lists left : Lists) (event : RunEvent) (answer : Option Reply) (old new : Seen) (how : Did) → how ≡ did.Broken half → Went how request run lists left event answer old new → old.stopped ≡ false
@@ -363,11 +355,11 @@ going_on {D} start script run journal broken replies began rows k row now event 
     then_journal = journal_behind run turn.0 journal d.0.makes.event d.0.makes.answer d.0.left
 
     ran : new.stopped ≡ false → old.stopped ≡ false
-    ran = ran_before (seen_in old before first) (seen_in new after second) d.0.ends.still
+    ran = ran_before old.stopped new.stopped (λ stopped. ap (λ (s : Seen). s.stopped) (d.0.ends.still stopped) ∙ stopped)
 
     quiet_then : (new.stopped ≡ false → old.stopped ≡ false) → (d.0.makes.event.refused ≢ Some refusal.ReadFault → (IsFault (did_of g.next) → ⊥) → NoFault first second) → (new.stopped ≡ false → IsFault (did_of g.next) → ⊥) → new.stopped ≡ false
         → All (λ event. event.refused ≢ Some refusal.ReadFault) (run.events ++ d.0.makes.event ∷ []) → NoFault began.faults second
-    quiet_then ran unfailed unfaulted runs unread = unfailed (all_last unread_event run.events d.0.makes.event unread) (unfaulted runs) ∙ s.quiet (ran runs) (all_front unread_event run.events d.0.makes.event unread)
+    quiet_then ran unfailed unfaulted runs unread = unfailed (All-pop unread_event (run.events ++ d.0.makes.event ∷ []) run.events (Some d.0.makes.event) refl unread).1 (unfaulted runs) ∙ s.quiet (ran runs) (All-pop unread_event (run.events ++ d.0.makes.event ∷ []) run.events (Some d.0.makes.event) refl unread).0
 
     served : (failed : Broken) × IsServing (stands_then new after second) start script then_run then_journal failed (replies_behind (ended_by event.ended) g.queued.place replies) began (seen_in new after second) (slice_set (lanes_of rows) k (lane_behind (ended_by event.ended) g.next (lane_value row)))
         × BreaksBy (did_of g.next) run d.0.makes.event (told_calls before) broken failed

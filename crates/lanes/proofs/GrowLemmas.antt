@@ -1,7 +1,6 @@
 -- A script that lanes serve, with a request more.
-use Rattle.std.proofs.Common.{◌≡◌, ◌<◌, ◌≤◌, ◌+◌, ◌-◌, ◌==◌, ℕ, zero, suc, Bool, true, false, cond, List, [], ◌∷◌, ◌++◌, map, slice_set, Option, Some, None, refl, sym, ◌∙◌, ap, subst, arith, inl, inr}
-use Rattle.std.specs.Prelude.{◌≢◌, ◌⊎◌, All, Contains, count_by, drop, filter, length, slice_get, slice_index_or}
-use Rattle.std.proofs.lemmas.Bool.{cond-false}
+use Rattle.std.proofs.Common.{◌≡◌, ◌<◌, ◌≤◌, ◌+◌, ◌==◌, ℕ, zero, suc, Bool, false, cond, List, [], ◌∷◌, ◌++◌, map, slice_set, Option, Some, None, refl, sym, ◌∙◌, ap, subst, arith, inl, inr}
+use Rattle.std.specs.Prelude.{◌≢◌, ◌⊎◌, All, Contains, count_by, drop, filter, length, slice_get}
 use Rattle.std.proofs.lemmas.Grind.{common_steps}
 use Rattle.std.proofs.lemmas.List.{length-append}
 use Rattle.std.proofs.lemmas.List.Elements.{All-cons, All-head, All-nil, All-tail, Contains-append_left, Contains-push}
@@ -12,51 +11,35 @@ use Rattle.mdbox_base.specs.declared.replies.Reply.{Reply}
 use Rattle.mdbox_base.specs.declared.replies.Reply.TheVariants as reply
 use Rattle.mdbox_base.specs.declared.requests.Request.{Request}
 use Rattle.model_lists.specs.Lists.{Lists}
-use Rattle.list_machine.specs.Run.{Run, RunEvent, before, own_events, reply_of, first_in}
-use Rattle.journal.specs.Events.{Around, DidPart, IsNextEvent, makes_step}
-use Rattle.journal.specs.Found.{AgreeWithRun, AgreesWithRun}
-use Rattle.journal.specs.Journal.{AreBroken, AreReplied, AreSteps, Broken, HasReply, HaveCauses, IsFirstPart, IsHalted, IsLegal, IsReplyOf, IsStep, JournalStep, LacksOrGoesOn, Requests, RoseBy, StandInOrder, WouldHaveBeen, as_if, halves_of, is_read_fault, left_by, steps_of}
-use Rattle.journal.specs.Makes.{AreNextEvents, AreReplies, AreTold, WouldDo, lists_before}
+use Rattle.list_machine.specs.Run.{Run, RunEvent, own_events, reply_of, first_in}
+use Rattle.journal.proofs.ReachedLemmas.{get_last}
+use Rattle.journal.specs.Events.{Around}
+use Rattle.journal.specs.Journal.{AreReplied, AreSteps, Broken, HasReply, HaveCauses, IsFirstPart, IsHalted, IsLegal, JournalStep, LacksOrGoesOn, Requests, RoseBy, StandInOrder, WouldHaveBeen, as_if, halves_of, is_read_fault, left_by, steps_of}
+use Rattle.journal.specs.Makes.{AreNextEvents, AreReplies, AreTold, WouldDo}
 use Rattle.journal.proofs.JournalLemmas.{get_more}
-use Rattle.task_steps.specs.Serves.{Follows, IsTurn, Serves}
-use Rattle.task_steps.specs.Step.{HasNotBegun, Seen}
-use Rattle.serving.specs.Lanes.{AreBehind, IsInTurn, LaneAt, LaneStands, LaneValue, LanesAt, said_by}
+use Rattle.task_steps.specs.Serves.{Follows, IsTurn}
+use Rattle.task_steps.specs.Step.{Seen}
+use Rattle.serving.specs.Lanes.{AreBehind, IsInTurn, LaneAt, LaneStands, LaneValue, said_by}
 use Rattle.serving.specs.Serving.{IsServing}
 use Rattle.serving.proofs.LaneLemmas.{get_set_other, get_set_same, nat_cases, one_some}
 use Rattle.lanes.specs.Asked.{asked_behind}
 
 -- ---- one more at the end of a list
 
-pub get_last : {X : Type 0} → (xs : List X) (x : X) → slice_get (xs ++ x ∷ []) (length xs) ≡ Some x
-get_last [] x = refl
-get_last (a ∷ more) x = get_last more x
-
 pub old_or_last : {X : Type 0} → (xs : List X) (x : X) (i : ℕ) (y : X) → slice_get (xs ++ x ∷ []) i ≡ Some y → (slice_get xs i ≡ Some y) ⊎ ((i ≡ length xs) × (x ≡ y))
 old_or_last [] x zero y is = inr (refl, one_some x y is)
 old_or_last [] x (suc i) y is = absurd (let z : None ≡ Some y = is in cc z)
 old_or_last (a ∷ more) x zero y is = inl is
-old_or_last {X} (a ∷ more) x (suc i) y is = by_case (old_or_last more x i y is)
-  where
-    by_case : (slice_get more i ≡ Some y) ⊎ ((i ≡ length more) × (x ≡ y)) → (slice_get more i ≡ Some y) ⊎ ((suc i ≡ length (a ∷ more)) × (x ≡ y))
-    by_case (inl old) = inl old
-    by_case (inr (last, same)) = inr (omega (arith, last), same)
+old_or_last (a ∷ more) x (suc i) y is = elim (old_or_last more x i y is) [ inl old ↦ inl old | inr r ↦ inr (let last = r.0 in omega (arith, last), r.1) ]
 
 -- one that is there before the end is an old one
 pub old_there : {X : Type 0} → (xs : List X) (x : X) (i : ℕ) (y : X) → i < length xs → slice_get (xs ++ x ∷ []) i ≡ Some y → slice_get xs i ≡ Some y
-old_there {X} xs x i y less is = by_case (old_or_last xs x i y is)
-  where
-    by_case : (slice_get xs i ≡ Some y) ⊎ ((i ≡ length xs) × (x ≡ y)) → slice_get xs i ≡ Some y
-    by_case (inl old) = old
-    by_case (inr (last, same)) = absurd (omega (arith, less, last))
+old_there xs x i y less is = elim (old_or_last xs x i y is) [ inl old ↦ old | inr r ↦ let last = r.0 in absurd (omega (arith, less, last)) ]
 
 -- ---- replies
 
 pub old_reply : (replies : List (Option Reply)) (i : ℕ) (given : Reply) → HasReply (replies ++ None ∷ []) i given → HasReply replies i given
-old_reply replies i given has = by_case (old_or_last replies None i (Some given) has)
-  where
-    by_case : (slice_get replies i ≡ Some (Some given)) ⊎ ((i ≡ length replies) × (None ≡ Some given)) → HasReply replies i given
-    by_case (inl old) = old
-    by_case (inr (last, same)) = absurd (cc same)
+old_reply replies i given has = elim (old_or_last replies None i (Some given) has) [ inl old ↦ old | inr r ↦ let same : None ≡ Some given = r.1 in absurd (cc same) ]
 
 as_many_faults : (replies : List (Option Reply)) → count_by is_read_fault (replies ++ None ∷ []) ≡ count_by is_read_fault replies
 as_many_faults [] = refl
@@ -196,11 +179,7 @@ module _ (start : Lists) (script : Requests) (run : Run) (journal : List Journal
   )
     where
       less_or_last : (i : ℕ) → i < length grown → (i < length script) ⊎ (i ≡ length script)
-      less_or_last i less = by_nat (nat_cases i (length script))
-        where
-          by_nat : (i ≡ length script) ⊎ (i ≢ length script) → (i < length script) ⊎ (i ≡ length script)
-          by_nat (inl same) = inr same
-          by_nat (inr apart) = inl (let many = length-append script (q ∷ []) in omega (arith, less, many, apart))
+      less_or_last i less = elim (nat_cases i (length script)) [ inl same ↦ inr same | inr apart ↦ inl (let many = length-append script (q ∷ []) in omega (arith, less, many, apart)) ]
 
       by_case : (i : ℕ) → (i < length script) ⊎ (i ≡ length script) → slice_get told_none i ≡ Some (reply_of i run)
       by_case i (inl less) = get_more replies (None ∷ []) i (reply_of i run) (given.1 i less)

@@ -5,6 +5,7 @@ use Rattle.std.proofs.lemmas.List.{length-append, length-set}
 use Rattle.std.proofs.lemmas.Option.{slice_get_past}
 use Rattle.mdbox_base.specs.declared.replies.Reply.{Reply}
 use Rattle.mdbox_base.specs.declared.replies.Reply.TheVariants as reply
+use Rattle.serving.proofs.ServingLemmas.{some_at}
 use Rattle.serving.proofs.LaneLemmas.{get_set_other, get_set_same, nat_cases, one_some}
 use Rattle.lanes.specs.Kept.{AreKeptOf, IsKeptOf, emptied}
 
@@ -26,11 +27,6 @@ get_more [] (y ∷ ys) x i long same = absurd (let e : zero ≡ suc (length ys) 
 get_more (z ∷ xs) [] x i long same = absurd (let e : suc (length xs) ≡ zero = long in cc e)
 get_more (z ∷ xs) (y ∷ ys) x zero long same = same
 get_more (z ∷ xs) (y ∷ ys) x (suc i) long same = get_more xs ys x i (omega (arith, long)) same
-
-there_within : {X : Type 0} → (xs : List X) (i : ℕ) → i < length xs → (x : X) × (slice_get xs i ≡ Some x)
-there_within [] i less = absurd (omega (arith, less))
-there_within (x ∷ xs) zero less = (x, refl)
-there_within (x ∷ xs) (suc i) less = there_within xs i (omega (arith, less))
 
 pub map_set : {X Y : Type 0} → (f : X → Y) (xs : List X) (i : ℕ) (x : X) → map f (slice_set xs i x) ≡ slice_set (map f xs) i (f x)
 map_set f [] i x = refl
@@ -119,10 +115,10 @@ one_put first given kept p x are inside = record {
 }
   where
     in_given : slice_get (slice_set given p x) p ≡ Some x
-    in_given = let t = there_within given p inside in get_set_same given p x t.0 t.1
+    in_given = let t = some_at given p inside in get_set_same given p x t.0 t.1
 
     in_kept : slice_get (slice_set kept p x) p ≡ Some x
-    in_kept = let l = are.many in let t = there_within kept p (omega (arith, inside, l)) in get_set_same kept p x t.0 t.1
+    in_kept = let l = are.many in let t = some_at kept p (omega (arith, inside, l)) in get_set_same kept p x t.0 t.1
 
     each_at : (i : ℕ) (one : Option Reply) → slice_get (slice_set given p x) i ≡ Some one → (i ≡ p) ⊎ (i ≢ p) → (now : Option Reply) × (slice_get (slice_set kept p x) i ≡ Some now) × IsKeptOf one now
     each_at i one at (inl same) =

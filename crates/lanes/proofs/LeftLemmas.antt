@@ -1,11 +1,9 @@
 -- What is left to do in a world falls with each event.
-use Rattle.std.proofs.Common.{◌≡◌, ◌<◌, ◌≤◌, ◌+◌, ℕ, zero, suc, Bool, true, false, cond, List, [], ◌∷◌, map, slice_set, Option, Some, None, refl, sym, ◌∙◌, ap, subst, arith}
-use Rattle.std.specs.Prelude.{◌≢◌, All, length, slice_get, sum_by, option_map}
-use Rattle.std.proofs.lemmas.List.Elements.{All-cons, All-head, All-tail, All-nil}
+use Rattle.std.proofs.Common.{◌≡◌, ◌<◌, ◌≤◌, ◌+◌, ℕ, zero, suc, Bool, true, false, cond, List, [], ◌∷◌, slice_set, Option, Some, None, refl, sym, ◌∙◌, ap, subst, arith}
+use Rattle.std.specs.Prelude.{◌≢◌, All, length, slice_get, sum_by}
+use Rattle.std.proofs.lemmas.List.Elements.{All-cons, All-head, All-tail, All-nil, All-weaker}
 use Rattle.std.proofs.lemmas.List.Sums.{sum_by-cons}
 use Rattle.disk_model.specs.Disk.{Faults, History}
-use Rattle.mdbox_base.specs.declared.progress.Progress.{Progress}
-use Rattle.mdbox_base.specs.declared.progress.Progress.TheVariants as progress
 use Rattle.mdbox_base.specs.declared.replies.Refusal.TheVariants as refusal
 use Rattle.mdbox_base.specs.declared.replies.Reply.{Reply}
 use Rattle.mdbox_base.specs.declared.replies.Reply.TheVariants as reply
@@ -18,10 +16,10 @@ use Rattle.lane_tasks.specs.Tasks.{IsReadyTask, claims_at, work_left}
 use Rattle.lane_tasks.specs.declared.task.Task.{Task}
 use Rattle.lane_tasks.proofs.StandLemmas.{begins_ready}
 use Rattle.lane_tasks.proofs.WorkLemmas.{work_stays}
-use Rattle.lanes.specs.Rows.{LaneRow, after_event, lane_value, lanes_of}
+use Rattle.lanes.specs.Rows.{LaneRow, after_event, lane_value}
 use Rattle.lanes.specs.Worlds.{BeginsSome, IsSoundWorld, Works, WorldValue, left_in, queued_in, world_left}
 use Rattle.lanes.specs.declared.lane.Queued.{Queued}
-use Rattle.lanes.proofs.GoingLemmas.{more_by, value_at}
+use Rattle.lanes.proofs.GoingLemmas.{more_by, value_at, row_cases}
 use Rattle.lanes.proofs.SoundLemmas.{ran_then}
 
 -- ---- sums
@@ -53,19 +51,12 @@ sums_set f g (a ∷ xs) (suc k) x y there less =
 -- ---- tasks of a lane
 
 all_begin : {D : Type 0} → (waiting : List Queued) (store : StoreValue D) (history : Option History) → All BeginsSome waiting → All (λ q. IsReadyTask q.task store history) waiting
-all_begin [] store history all = All-nil (λ (q : Queued). IsReadyTask q.task store history)
-all_begin (next ∷ rest) store history all =
-    let b = All-head BeginsSome next rest all in
-    All-cons (λ (q : Queued). IsReadyTask q.task store history) next rest (begins_ready b.0 next.task store history b.1) (all_begin rest store history (All-tail BeginsSome next rest all))
+all_begin waiting store history = All-weaker BeginsSome (λ (q : Queued). IsReadyTask q.task store history) (λ q begins. begins_ready begins.0 q.task store history begins.1) waiting
 
 all_ready : {D : Type 0} → (row : LaneRow) (store : StoreValue D) (history : Option History) → All BeginsSome row.waiting → IsReadyLane IsReadyTask (lane_value row) store history → All (λ q. IsReadyTask q.task store history) (queued_in row)
-all_ready {D} row store history begin ready = by_current row.current refl
-  where
-    by_current : (current : Option Queued) → row.current ≡ current → All (λ q. IsReadyTask q.task store history) (queued_in row)
-    by_current None is = subst (λ (o : Option Queued). All (λ q. IsReadyTask q.task store history) (queued_in (record row { current = o }))) (sym is) (All-nil (λ (q : Queued). IsReadyTask q.task store history))
-    by_current (Some first) is =
-        subst (λ (o : Option Queued). All (λ q. IsReadyTask q.task store history) (queued_in (record row { current = o }))) (sym is)
-        (All-cons (λ (q : Queued). IsReadyTask q.task store history) first row.waiting (ready first.task (ap (option_map (λ (q : Queued). q.task)) is)) (all_begin row.waiting store history begin))
+all_ready row store history =
+    row_cases (λ r. All BeginsSome r.waiting → IsReadyLane IsReadyTask (lane_value r) store history → All (λ q. IsReadyTask q.task store history) (queued_in r)) (λ waiting begin ready. All-nil (λ (q : Queued). IsReadyTask q.task store history))
+    (λ first waiting begin ready. All-cons (λ (q : Queued). IsReadyTask q.task store history) first waiting (ready first.task refl) (all_begin waiting store history begin)) row
 
 lefts_stay : {D : Type 0} → (mine : Task) (old new : StoreValue D) (before after : Option History) (qs : List Queued) → LeavesOthers (claims_at mine) old new before after → All (λ q. IsReadyTask q.task old before) qs → sum_by (λ (q : Queued). work_left q.task new) qs ≤ sum_by (λ (q : Queued). work_left q.task old) qs
 lefts_stay mine old new before after [] leaves ready = omega arith

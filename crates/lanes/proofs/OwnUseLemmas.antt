@@ -6,11 +6,11 @@ use Rattle.mdbox_base.specs.declared.ids.Uid.{Uid}
 use Rattle.mdbox_base.specs.declared.replies.Refusal.{Refusal}
 use Rattle.mdbox_base.specs.declared.requests.Request.{Request}
 use Rattle.mdbox_base.specs.declared.requests.Request.TheVariants as request
-use Rattle.model_lists.specs.Lists.{ListedMessage, Lists}
-use Rattle.list_machine.specs.Machine.{message_numbered}
-use Rattle.list_machine.specs.Run.{Compares, CopiesMessage, EventPart, First, GivesBack, Last, MakesTarget, Pin, PlacesInstance, PlacesMessage, ReadsFile, RemovesFile, RemovesInstance, RunEvent, Run, SecondHalf, StartsOver, StoresRecord, Switches, TakesFile, source_of}
-use Rattle.journal.specs.Events.{Around, DidCopy, DidDeliver, DidFetch, DidNothing, DidPart, DidPurge, IsEvent, RemovesIfThere}
+use Rattle.model_lists.specs.Lists.{Lists}
+use Rattle.list_machine.specs.Run.{Compares, CopiesMessage, EventPart, First, GivesBack, Last, MakesTarget, Pin, PlacesInstance, PlacesMessage, RemovesFile, RemovesInstance, RunEvent, Run, StoresRecord, Switches, TakesFile}
+use Rattle.journal.specs.Events.{Around, DidDeliver, DidFetch, DidNothing, DidPart, DidPurge, IsEvent}
 use Rattle.journal.specs.Found.{is_same_instance}
+use Rattle.lane_tasks.proofs.FilesLemmas.{touches_none}
 use Rattle.lane_tasks.specs.Uses.{finds_instance, pins_instance}
 
 -- ---- one event
@@ -37,17 +37,6 @@ uses_as a b e = (finds_as a b e, pins_as a b e)
 
 -- ---- each kind, where it wasn't refused
 
-copied_none : (run : Run) (lists : Lists) (name : List ℕ) (uid : ℕ) (target : List ℕ) (event : RunEvent) (part : EventPart) → DidCopy run lists name uid target event part → UsesNone event
-copied_none run lists name uid target event First d = uses_as event _ d.4
-copied_none run lists name uid target event Last d = uses_as event _ d.2.4
-copied_none run lists name uid target event StartsOver d = uses_as event _ d
-copied_none run lists name uid target event GivesBack d = uses_as event _ d.2
-copied_none run lists name uid target event part d = absurd d
-
-removed_none : (run : Run) (number uid : ℕ) (event : RunEvent) (there : Option ListedMessage) → RemovesIfThere run number uid event there → UsesNone event
-removed_none run number uid event None d = uses_as event _ d
-removed_none run number uid event (Some message) d = uses_as event _ d.2
-
 purged_none : (around : Around) (run : Run) (event : RunEvent) (part : EventPart) → DidPurge around run event part → UsesNone event
 purged_none around run event First d = uses_as event _ d.2
 purged_none around run event MakesTarget d = uses_as event _ d.2
@@ -73,52 +62,6 @@ fetched_finds run lists name uid event First d = finds_as event _ d.2
 fetched_finds run lists name uid event RemovesFile d = finds_as event _ d.4
 fetched_finds run lists name uid event part d = finds_as event _ d
 
--- of requests that are neither a delivery nor a fetch
-abbrev pub DidOther : Request → Type 0
-DidOther asked = (around : Around) (run : Run) (lists : Lists) (event : RunEvent) (part : EventPart) → DidPart around run lists asked event part → UsesNone event
-
-listed_none : (name : List ℕ) → DidOther (request.List name)
-listed_none name around run lists event part d = uses_as event _ d
-
-counted_none : DidOther request.Counts
-counted_none around run lists event part d = uses_as event _ d
-
-flagged_none : (name : List ℕ) (uid : Uid) (flags : ℕ) → DidOther (request.Flag name uid flags)
-flagged_none name uid flags around run lists event First d = uses_as event _ d.2
-flagged_none name uid flags around run lists event part d = uses_as event _ d
-
-worded_none : (name : List ℕ) (uid : Uid) (words : List (List ℕ)) → DidOther (request.Keywords name uid words)
-worded_none name uid words around run lists event First d = uses_as event _ d.2
-worded_none name uid words around run lists event part d = uses_as event _ d
-
-expunged_none : (name : List ℕ) (uid : Uid) → DidOther (request.Expunge name uid)
-expunged_none name uid around run lists event First d = uses_as event _ d.4
-expunged_none name uid around run lists event GivesBack d = uses_as event _ d.2
-expunged_none name uid around run lists event part d = uses_as event _ d
-
-moved_none : (name : List ℕ) (uid : Uid) (target : List ℕ) → DidOther (request.Move name uid target)
-moved_none name uid target around run lists event SecondHalf d = removed_none run (source_of event.request run) uid.0 event (message_numbered (source_of event.request run) uid.0 lists) d
-moved_none name uid target around run lists event part d = copied_none run lists name uid.0 target event part d
-
-made_none : (name : List ℕ) → DidOther (request.Make name)
-made_none name around run lists event First d = uses_as event _ d
-made_none name around run lists event Last d = uses_as event _ d
-made_none name around run lists event part d = uses_as event _ d
-
-deleted_none : (name : List ℕ) → DidOther (request.Delete name)
-deleted_none name around run lists event First d = uses_as event _ d.4
-deleted_none name around run lists event part d = uses_as event _ d
-
-renamed_none : (name target : List ℕ) → DidOther (request.Rename name target)
-renamed_none name target around run lists event First d = uses_as event _ d.2
-renamed_none name target around run lists event part d = uses_as event _ d
-
-resynced_none : DidOther request.Resync
-resynced_none around run lists event First d = uses_as event _ d
-resynced_none around run lists event ReadsFile d = uses_as event _ d
-resynced_none around run lists event Last d = uses_as event _ d.3
-resynced_none around run lists event part d = uses_as event _ d
-
 -- ---- of whatever request
 
 -- An event finds no instance unless it is one of a delivery, and pins none unless it is one of a fetch.
@@ -135,18 +78,8 @@ used_as asked event none = none
 did_uses : (asked : Request) (around : Around) (run : Run) (lists : Lists) (event : RunEvent) (part : EventPart) → DidPart around run lists asked event part → UsesAs asked event
 did_uses (request.Deliver name time octets) around run lists event part d = delivered_pins around run lists name time octets event part d
 did_uses (request.Fetch name uid) around run lists event part d = fetched_finds run lists name uid.0 event part d
-did_uses (request.List name) around run lists event part d = listed_none name around run lists event part d
-did_uses (request.Flag name uid flags) around run lists event part d = flagged_none name uid flags around run lists event part d
-did_uses (request.Keywords name uid words) around run lists event part d = worded_none name uid words around run lists event part d
-did_uses (request.Copy name uid target) around run lists event part d = copied_none run lists name uid.0 target event part d
-did_uses (request.Move name uid target) around run lists event part d = moved_none name uid target around run lists event part d
-did_uses (request.Expunge name uid) around run lists event part d = expunged_none name uid around run lists event part d
-did_uses (request.Make name) around run lists event part d = made_none name around run lists event part d
-did_uses (request.Delete name) around run lists event part d = deleted_none name around run lists event part d
-did_uses (request.Rename name target) around run lists event part d = renamed_none name target around run lists event part d
-did_uses request.Counts around run lists event part d = counted_none around run lists event part d
 did_uses request.Purge around run lists event part d = purged_none around run event part d
-did_uses request.Resync around run lists event part d = resynced_none around run lists event part d
+did_uses asked around run lists event part d = let none = touches_none asked tt around run lists event part d in ((none.1, none.2), none.3)
 
 pub nothing_used : (event : RunEvent) → DidNothing event → UsesNone event
 nothing_used event d = uses_as event _ d

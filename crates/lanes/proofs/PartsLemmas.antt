@@ -1,10 +1,10 @@
 -- The lanes of a script, made from its last request to its first.
-use Rattle.std.proofs.Common.{◌≡◌, ◌<◌, ◌≤◌, ◌+◌, ◌-◌, ◌==◌, ℕ, zero, suc, Bool, true, false, cond, List, [], ◌∷◌, ◌++◌, map, slice_set, Option, Some, None, refl, sym, ◌∙◌, ap, subst, arith, inl, inr}
+use Rattle.std.proofs.Common.{◌≡◌, ◌<◌, ◌≤◌, ◌+◌, ◌-◌, ℕ, zero, suc, Bool, cond, List, [], ◌∷◌, ◌++◌, map, slice_set, Option, Some, None, refl, sym, ◌∙◌, ap, subst, arith, inl, inr}
 use Rattle.std.specs.Prelude.{◌≢◌, ◌⊎◌, All, length, replicate, slice_get}
-use Rattle.std.proofs.lemmas.Grind.{common_steps}
-use Rattle.std.proofs.lemmas.List.{append_assoc, append-nil, length-append, length-set, length-replicate}
-use Rattle.std.proofs.lemmas.List.Elements.{All-cons, All-head, All-nil, All-tail}
+use Rattle.std.proofs.lemmas.List.{append_assoc, length-append, length-set, length-replicate}
+use Rattle.std.proofs.lemmas.List.Elements.{All-cons, All-head, All-nil, All-tail, All-same, All-weaker, All-map}
 use Rattle.std.proofs.lemmas.Option.{slice_get_within}
+use Rattle.std.proofs.lemmas.Bool.{eq-eqb, ne_eqb}
 use Rattle.attach_detach.specs.declared.message.Prepared.{Prepared}
 use Rattle.mdbox_base.specs.declared.replies.Reply.{Reply}
 use Rattle.mdbox_base.specs.declared.requests.Request.{Request}
@@ -13,7 +13,9 @@ use Rattle.serving.specs.Lanes.{queue_of}
 use Rattle.serving.proofs.LaneLemmas.{get_set_other, get_set_same, nat_cases, one_some}
 use Rattle.serving.proofs.ServingLemmas.{all_at}
 use Rattle.lane_tasks.specs.Tasks.{BeginsTask}
-use Rattle.lanes.specs.Going.{AreFreshRows, IsFreshRow, WaitsWithTask}
+use Rattle.lanes.proofs.WorldLemmas.{lane_back}
+use Rattle.lanes.proofs.GoingLemmas.{row_cases}
+use Rattle.lanes.specs.Going.{WaitsWithTask}
 use Rattle.lanes.specs.Rows.{LaneRow, queue_in}
 use Rattle.lanes.specs.Worlds.{AreFreshParts, AreGiven, AreOfLanes, ArePartsOf, AreRowsFrom, BeginsSome, HasItsMessage, IsRowFrom, empty_row, queued_in}
 use Rattle.lanes.specs.declared.lane.Queued.{Queued}
@@ -58,24 +60,17 @@ given_last (a ∷ requests) q (g ∷ given) x are = let r = given_last requests 
 
 -- ---- a lane
 
-number_test : (a b : ℕ) → (a ≡ b → (a == b) ≡ true) × (a ≢ b → (a == b) ≡ false)
-number_test a b = (λ e. grind (arith, common_steps, e), λ n. grind (arith, common_steps, n))
-
 pub empty_from : (script : Requests) (lane place : ℕ) → IsRowFrom script lane place [] empty_row
 empty_from script lane place = record { all = refl; begin = All-nil (WaitsWithTask script lane); alone = λ none. refl }
 
 places_of : (row : LaneRow) (q : Queued) → queue_in (record { current = Some q; waiting = queued_in row }) ≡ q.place ∷ queue_in row
-places_of row q = by_current row.current refl
-  where
-    by_current : (current : Option Queued) → row.current ≡ current → q.place ∷ map (λ (x : Queued). x.place) (queued_in row) ≡ q.place ∷ queue_in row
-    by_current None is = ap (λ (o : Option Queued). q.place ∷ map (λ (x : Queued). x.place) (queued_in (record row { current = o }))) is ∙ sym (ap (λ (o : Option Queued). q.place ∷ queue_in (record row { current = o })) is)
-    by_current (Some first) is = ap (λ (o : Option Queued). q.place ∷ map (λ (x : Queued). x.place) (queued_in (record row { current = o }))) is ∙ sym (ap (λ (o : Option Queued). q.place ∷ queue_in (record row { current = o })) is)
+places_of row q = row_cases (λ r. queue_in (record { current = Some q; waiting = queued_in r }) ≡ q.place ∷ queue_in r) (λ waiting. refl) (λ first waiting. refl) row
 
 -- the lane of a request has it in front
 own_from : (script part : Requests) (lane place : ℕ) (request : Request) (row : LaneRow) (q : Queued) → q.place ≡ place → slice_get script place ≡ Some (lane, request) → BeginsTask request q.task → IsRowFrom script lane (place + 1) part row
     → IsRowFrom script lane place ((lane, request) ∷ part) (record { current = Some q; waiting = queued_in row })
 own_from script part lane place request row q at there begins from = record {
-  all = places_of row q ∙ (ap (λ (n : ℕ). n ∷ queue_in row) at ∙ (ap (λ (ps : List ℕ). place ∷ ps) from.all ∙ sym (ap (λ (b : Bool). cond b (place ∷ queue_of lane (place + 1) part) (queue_of lane (place + 1) part)) ((number_test lane lane).0 refl))));
+  all = places_of row q ∙ (ap (λ (n : ℕ). n ∷ queue_in row) at ∙ (ap (λ (ps : List ℕ). place ∷ ps) from.all ∙ sym (ap (λ (b : Bool). cond b (place ∷ queue_of lane (place + 1) part) (queue_of lane (place + 1) part)) (eq-eqb lane lane refl))));
   begin = All-cons (WaitsWithTask script lane) q (queued_in row) (request, (ap (λ (n : ℕ). slice_get script n) at ∙ there), begins) from.begin;
   alone = λ none. absurd (let z : Some q ≡ None = none in cc z);
 }
@@ -83,7 +78,7 @@ own_from script part lane place request row q at there begins from = record {
 -- every other lane is as it was
 other_from : (script part : Requests) (lane other place : ℕ) (request : Request) (row : LaneRow) → lane ≢ other → IsRowFrom script other (place + 1) part row → IsRowFrom script other place ((lane, request) ∷ part) row
 other_from script part lane other place request row apart from = record {
-  all = from.all ∙ sym (ap (λ (b : Bool). cond b (place ∷ queue_of other (place + 1) part) (queue_of other (place + 1) part)) ((number_test lane other).1 apart));
+  all = from.all ∙ sym (ap (λ (b : Bool). cond b (place ∷ queue_of other (place + 1) part) (queue_of other (place + 1) part)) (ne_eqb lane other apart));
   begin = from.begin;
   alone = from.alone;
 }
@@ -123,14 +118,11 @@ pub behind_more : (script : Requests) (lanes : ℕ) (old new : Requests) (lane :
 behind_more script lanes old new lane request rows row q behind is some here at begins = (
   (lane, request) ∷ behind.0,
   behind.1 ∙ (ap (λ (r : Requests). r ++ behind.0) is ∙ append_assoc new ((lane, request) ∷ []) behind.0),
-  subst (λ (n : ℕ). AreRowsFrom script lanes (length new) ((n, request) ∷ behind.0) (slice_set rows (lane - 1) (record { current = Some q; waiting = queued_in row }))) number
-      (rows_more script behind.0 lanes (lane - 1) (length new) request rows row q here at (subst (λ (n : ℕ). slice_get script (length new) ≡ Some (n, request)) (sym number) (last_asked script lanes old new (lane, request) rows behind is)) begins
+  subst (λ (n : ℕ). AreRowsFrom script lanes (length new) ((n, request) ∷ behind.0) (slice_set rows (lane - 1) (record { current = Some q; waiting = queued_in row }))) (sym (lane_back lane some))
+      (rows_more script behind.0 lanes (lane - 1) (length new) request rows row q here at (subst (λ (n : ℕ). slice_get script (length new) ≡ Some (n, request)) (lane_back lane some) (last_asked script lanes old new (lane, request) rows behind is)) begins
       (subst (λ (n : ℕ). AreRowsFrom script lanes n behind.0 rows) longer behind.2)),
 )
   where
-    number : lane - 1 + 1 ≡ lane
-    number = omega (arith, some)
-
     longer : length old ≡ length new + 1
     longer = ap (λ (r : Requests). length r) is ∙ length-append new ((lane, request) ∷ [])
 
@@ -142,22 +134,20 @@ none_left script lanes left rows behind none =
 -- ---- the parts
 
 begins_in : (script : Requests) (lane : ℕ) (qs : List Queued) → All (WaitsWithTask script lane) qs → All BeginsSome qs × All (λ q. q.place < length script) qs
-begins_in script lane [] all = (All-nil BeginsSome, All-nil (λ (q : Queued). q.place < length script))
-begins_in script lane (q ∷ qs) all =
-    let b = All-head (WaitsWithTask script lane) q qs all in
-    let r = begins_in script lane qs (All-tail (WaitsWithTask script lane) q qs all) in
-    (All-cons BeginsSome q qs (b.0, b.2) r.0, All-cons (λ (q : Queued). q.place < length script) q qs (slice_get_within script q.place (lane, b.0) b.1) r.1)
+begins_in script lane qs all = (
+  All-weaker (WaitsWithTask script lane) BeginsSome (λ q waits. (waits.0, waits.2)) qs all,
+  All-weaker (WaitsWithTask script lane) (λ (q : Queued). q.place < length script) (λ q waits. slice_get_within script q.place (lane, waits.0) waits.1) qs all,
+)
 
 places_in : (n : ℕ) (qs : List Queued) → All (λ q. q.place < n) qs → All (λ place. place < n) (map (λ (q : Queued). q.place) qs)
-places_in n [] all = All-nil (λ (place : ℕ). place < n)
-places_in n (q ∷ qs) all = All-cons (λ (place : ℕ). place < n) q.place (map (λ (x : Queued). x.place) qs) (All-head (λ (q : Queued). q.place < n) q qs all) (places_in n qs (All-tail (λ (q : Queued). q.place < n) q qs all))
+places_in n = All-map (λ (place : ℕ). place < n) (λ (q : Queued). q.place)
 
 queue_places : (row : LaneRow) → map (λ (q : Queued). q.place) (queued_in row) ≡ queue_in row
-queue_places row = by_current row.current refl
-  where
-    by_current : (current : Option Queued) → row.current ≡ current → map (λ (q : Queued). q.place) (queued_in row) ≡ queue_in row
-    by_current None is = ap (λ (o : Option Queued). map (λ (q : Queued). q.place) (queued_in (record row { current = o }))) is ∙ sym (ap (λ (o : Option Queued). queue_in (record row { current = o })) is)
-    by_current (Some first) is = ap (λ (o : Option Queued). map (λ (q : Queued). q.place) (queued_in (record row { current = o }))) is ∙ sym (ap (λ (o : Option Queued). queue_in (record row { current = o })) is)
+queue_places = row_cases (λ row. map (λ (q : Queued). q.place) (queued_in row) ≡ queue_in row) (λ waiting. refl) (λ first waiting. refl)
+
+-- what holds of all its requests holds of those behind the first
+pub behind_all : (P : Queued → Type 0) (row : LaneRow) → (row.current ≡ None → row.waiting ≡ []) → All P (queued_in row) → All P row.waiting
+behind_all P = row_cases (λ row. (row.current ≡ None → row.waiting ≡ []) → All P (queued_in row) → All P row.waiting) (λ waiting alone all. All-same P waiting [] (alone refl) (All-nil P)) (λ first waiting alone all. All-tail P first waiting all)
 
 pub parts_fresh : (script : Requests) (lanes requests : ℕ) (rows : List LaneRow) → AreRowsFrom script lanes 0 script rows → AreOfLanes lanes script → requests ≡ length script → length script ≤ 100000 → AreFreshParts (record { rows = rows; requests = requests })
 parts_fresh script lanes requests rows from of same few = record {
@@ -173,15 +163,8 @@ parts_of script lanes requests rows from same = record {
   rows = λ k row there. let f = from.1 k row there in record {
     all = f.all;
     first = λ q is. All-head (WaitsWithTask script (k + 1)) q row.waiting (subst (λ (o : Option Queued). All (WaitsWithTask script (k + 1)) (queued_in (record row { current = o }))) is f.begin);
-    behind = behind_waits script (k + 1) row f.alone f.begin;
+    behind = behind_all (WaitsWithTask script (k + 1)) row f.alone f.begin;
   };
   many = from.0;
   requests = same;
 }
-  where
-    behind_waits : (script : Requests) (lane : ℕ) (row : LaneRow) → (row.current ≡ None → row.waiting ≡ []) → All (WaitsWithTask script lane) (queued_in row) → All (WaitsWithTask script lane) row.waiting
-    behind_waits script lane row alone all = by_current row.current refl
-      where
-        by_current : (current : Option Queued) → row.current ≡ current → All (WaitsWithTask script lane) row.waiting
-        by_current None is = subst (λ (qs : List Queued). All (WaitsWithTask script lane) qs) (sym (alone is)) (All-nil (WaitsWithTask script lane))
-        by_current (Some first) is = All-tail (WaitsWithTask script lane) first row.waiting (subst (λ (o : Option Queued). All (WaitsWithTask script lane) (queued_in (record row { current = o }))) is all)

@@ -1,8 +1,8 @@
 -- Events of lanes, one after another, in rounds or in whatever order.
-use Rattle.std.proofs.Common.{◌≡◌, ◌<◌, ◌≤◌, ◌+◌, ◌-◌, ℕ, zero, suc, Bool, true, false, cond, List, [], ◌∷◌, ◌++◌, map, slice_set, Option, Some, None, refl, sym, ◌∙◌, ap, subst, arith, inl, inr}
-use Rattle.std.specs.Prelude.{◌≢◌, ◌⊎◌, length, nat_lt, slice_get}
-use Rattle.std.proofs.lemmas.Grind.{common_steps}
+use Rattle.std.proofs.Common.{◌≡◌, ◌<◌, ◌≤◌, ◌+◌, ◌-◌, ℕ, List, [], ◌∷◌, ◌++◌, map, Option, Some, None, refl, sym, ◌∙◌, ap, subst, arith, inl, inr}
+use Rattle.std.specs.Prelude.{◌⊎◌, length, nat_lt, slice_get}
 use Rattle.std.proofs.lemmas.List.{append-nil, append_assoc, length-set}
+use Rattle.std.proofs.lemmas.Bool.{cases_lt, cond-true, cond-false, lt-ltb, le-ltb}
 use Rattle.disk_model.specs.Disk.{Faults, History, told_calls}
 use Rattle.mdbox_base.specs.declared.replies.Reply.{Reply}
 use Rattle.mdbox_base.specs.declared.script.JournalEntry.{JournalEntry}
@@ -11,6 +11,7 @@ use Rattle.journal.specs.Journal.{HasReply, IsFirstPart, JournalStep}
 use Rattle.serving.specs.Lanes.{replies_behind}
 use Rattle.serving.proofs.LaneLemmas.{get_set_other, nat_cases, one_some}
 use Rattle.task_steps.specs.Step.{ended_by}
+use Rattle.lane_tasks.proofs.StepLemmas.{ran_before}
 use Rattle.lanes.specs.Rows.{LaneRow}
 use Rattle.lanes.specs.Turned.{GoesOnInOrder}
 use Rattle.lanes.specs.Worlds.{AreAdded, AreIdleBetween, GoesInRounds, GoesOnBy, IsIdleLane, IsLaneEvent, IsNextBusy, IsServedOn, IsWorldOf, KeepsWorld, WorldValue, and_events, turns_behind}
@@ -30,11 +31,8 @@ last_more last lane (next ∷ lanes) = last_more next lane lanes
 
 pub rounds_more : {D : Type 0} → (last lane : ℕ) (lanes : List ℕ) (old mid new : WorldValue D) (before between after : Option History) (first next second : Faults) → GoesInRounds last lanes old mid before between first next → IsNextBusy (last_of last lanes) lane mid.rows → IsLaneEvent lane mid new between after next second → new.turns ≡ mid.turns
     → GoesInRounds last (lanes ++ lane ∷ []) old new before after first second
-rounds_more {D} last lane [] old mid new before between after first next second g busy event turns =
-    subst (λ (w : WorldValue D). GoesInRounds last (lane ∷ []) w new before after first second) g.0
-    (subst (λ (h : Option History). GoesInRounds last (lane ∷ []) mid new h after first second) g.1
-    (subst (λ (f : Faults). GoesInRounds last (lane ∷ []) mid new between after f second) g.2 (new, after, second, busy, event, turns, (refl, refl, refl))))
-rounds_more {D} last lane (a ∷ lanes) old mid new before between after first next second g busy event turns =
+rounds_more last lane [] old mid new before between after first next second g busy event turns = rw (← g.0, ← g.1, ← g.2) (new, after, second, busy, event, turns, (refl, refl, refl))
+rounds_more last lane (a ∷ lanes) old mid new before between after first next second g busy event turns =
     (g.0, g.1, g.2, g.3, g.4, g.5, rounds_more a lane lanes g.0 mid new g.1 between after g.2 next second g.6 busy event turns)
 
 -- ---- in whatever order
@@ -90,11 +88,10 @@ first_added room added entries now are = by_case are.some
 
 reply_stays : (ended : Option Reply) (place i : ℕ) (replies : List (Option Reply)) (given : Reply) → slice_get replies place ≡ Some None → HasReply replies i given → HasReply (replies_behind ended place replies) i given
 reply_stays None place i replies given none has = has
-reply_stays (Some reply) place i replies given none has = by_case (nat_cases place i)
-  where
-    by_case : (place ≡ i) ⊎ (place ≢ i) → HasReply (slice_set replies place (Some reply)) i given
-    by_case (inl e) = absurd (let z : None ≡ Some given = one_some None (Some given) (sym none ∙ (ap (slice_get replies) e ∙ has)) in cc z)
-    by_case (inr apart) = get_set_other replies place i (Some reply) apart ∙ has
+reply_stays (Some reply) place i replies given none has = elim (nat_cases place i) [
+  | inl e ↦ absurd (let z : None ≡ Some given = one_some None (Some given) (sym none ∙ (ap (slice_get replies) e ∙ has)) in cc z)
+  | inr apart ↦ get_set_other replies place i (Some reply) apart ∙ has
+]
 
 pub event_keeps : {D : Type 0} → (lane : ℕ) (old new : WorldValue D) (before after : Option History) (first second : Faults) → IsLaneEvent lane old new before after first second → KeepsWorld old new before after first second
 event_keeps lane old new before after first second e = let keeps = e.works.goes.goes.keeps in record {
@@ -113,11 +110,6 @@ event_keeps lane old new before after first second e = let keeps = e.works.goes.
   room = e.works.room_is;
 }
 
--- a store that runs ran before
-ran_so : (old new : Bool) → (old ≡ true → new ≡ true) → new ≡ false → old ≡ false
-ran_so true new stays runs = absurd (let z : true ≡ false = sym (stays refl) ∙ runs in cc z)
-ran_so false new stays runs = refl
-
 pub keeps_then : {D : Type 0} → (old mid new : WorldValue D) (before between after : Option History) (first counted second : Faults) → KeepsWorld old mid before between first counted → KeepsWorld mid new between after counted second → KeepsWorld old new before after first second
 keeps_then old mid new before between after first counted second a b = record {
   replies = λ i given has. b.replies i given (a.replies i given has);
@@ -130,7 +122,7 @@ keeps_then old mid new before between after first counted second a b = record {
   grows = let x : told_calls before ≤ told_calls between = a.grows in let y : told_calls between ≤ told_calls after = b.grows in omega (arith, x, y);
   reads = let x = a.reads in let y = b.reads in omega (arith, x, y);
   changes = let x = a.changes in let y = b.changes in omega (arith, x, y);
-  unfailed = λ runs. b.unfailed runs ∙ a.unfailed (ran_so mid.store.stopped new.store.stopped b.stopped runs);
+  unfailed = λ runs. b.unfailed runs ∙ a.unfailed (ran_before mid.store.stopped new.store.stopped b.stopped runs);
   began = b.began ∙ a.began;
   room = b.room ∙ a.room;
 }
@@ -153,57 +145,26 @@ keeps_itself world history faults = record {
 }
 
 pub in_order_keeps : {D : Type 0} → (lanes : List ℕ) (old new : WorldValue D) (before after : Option History) (first second : Faults) → GoesOnInOrder lanes old new before after first second → KeepsWorld old new before after first second
-in_order_keeps [] old new before after first second g =
-    subst (λ (w : WorldValue _). KeepsWorld old w before after first second) (sym g.0)
-    (subst (λ (h : Option History). KeepsWorld old old before h first second) (sym g.1) (subst (λ (f : Faults). KeepsWorld old old before before first f) (sym g.2) (keeps_itself old before first)))
+in_order_keeps [] old new before after first second g = rw (g.0, g.1, g.2) (keeps_itself old before first)
 in_order_keeps (lane ∷ lanes) old new before after first second g = keeps_then old g.0 new before g.1 after first g.2 second (event_keeps lane old g.0 before g.1 first g.2 g.3) (in_order_keeps lanes g.0 new g.1 after g.2 second g.5)
 
 pub rounds_keep_world : {D : Type 0} → (lanes : List ℕ) (old new : WorldValue D) (before after : Option History) (first second : Faults) → GoesOnBy lanes old new before after first second → KeepsWorld old new before after first second
-rounds_keep_world lanes old new before after first second g = let k = in_order_keeps lanes (as_finished old) new before after first second (in_order 0 lanes (as_finished old) new before after first second g) in record {
-  replies = k.replies;
-  requests = k.requests;
-  scripted = k.scripted;
-  lanes = k.lanes;
-  journal = k.journal;
-  broken = k.broken;
-  stopped = k.stopped;
-  grows = k.grows;
-  reads = k.reads;
-  changes = k.changes;
-  unfailed = k.unfailed;
-  began = k.began;
-  room = k.room;
-}
+rounds_keep_world lanes old new before after first second g = let k = in_order_keeps lanes (as_finished old) new before after first second (in_order 0 lanes (as_finished old) new before after first second g) in assumption k
 
 -- ---- the lane in turn
 
 turns_on : (lanes last lane : ℕ) → last < lane → turns_behind lanes last lane ≡ lane - last
-turns_on lanes last lane less = ap (λ (b : Bool). cond b (lane - last) (lanes + lane - last)) (test last lane less)
-  where
-    test : (a b : ℕ) → a < b → nat_lt a b ≡ true
-    test a b less = grind (arith, common_steps, less)
+turns_on lanes last lane less = cond-true (nat_lt last lane) (lane - last) (lanes + lane - last) (lt-ltb last lane less)
 
 turns_round : (lanes last lane : ℕ) → lane ≤ last → turns_behind lanes last lane ≡ lanes + lane - last
-turns_round lanes last lane most = ap (λ (b : Bool). cond b (lane - last) (lanes + lane - last)) (test last lane most)
-  where
-    test : (a b : ℕ) → b ≤ a → nat_lt a b ≡ false
-    test a b most = grind (arith, common_steps, most)
-
-less_cases : (a b : ℕ) → (a < b) ⊎ (b ≤ a)
-less_cases a zero = inr (omega arith)
-less_cases zero (suc b) = inl (omega arith)
-less_cases (suc a) (suc b) = by_case (less_cases a b)
-  where
-    by_case : (a < b) ⊎ (b ≤ a) → (suc a < suc b) ⊎ (suc b ≤ suc a)
-    by_case (inl less) = inl (omega (arith, less))
-    by_case (inr most) = inr (omega (arith, most))
+turns_round lanes last lane most = cond-false (nat_lt last lane) (lane - last) (lanes + lane - last) (le-ltb last lane most)
 
 -- the first lane behind the last one that has a request left
 pub next_on : (last lane : ℕ) (rows : List LaneRow) → last < lane → lane ≤ length rows → (IsIdleLane lane rows → ⊥) → AreIdleBetween last lane rows → IsNextBusy last lane rows
 next_on last lane rows less within busy between = record {
   is_lane = (omega (arith, less), within);
   busy = busy;
-  sooner = λ other some most sooner. by_case other some most sooner (less_cases last other);
+  sooner = λ other some most sooner. by_case other some most sooner (cases_lt last other);
 }
   where
     by_case : (other : ℕ) → 1 ≤ other → other ≤ length rows → turns_behind (length rows) last other < turns_behind (length rows) last lane → (last < other) ⊎ (other ≤ last) → IsIdleLane other rows
@@ -221,7 +182,7 @@ pub next_round : (last lane : ℕ) (rows : List LaneRow) → 0 < lane → lane �
 next_round last lane rows some_lane within busy between behind = record {
   is_lane = (omega (arith, some_lane), within);
   busy = busy;
-  sooner = λ other some most sooner. by_case other some most sooner (less_cases last other) (less_cases last lane);
+  sooner = λ other some most sooner. by_case other some most sooner (cases_lt last other) (cases_lt last lane);
 }
   where
     by_case : (other : ℕ) → 1 ≤ other → other ≤ length rows → turns_behind (length rows) last other < turns_behind (length rows) last lane → (last < other) ⊎ (other ≤ last) → (last < lane) ⊎ (lane ≤ last) → IsIdleLane other rows
@@ -234,8 +195,7 @@ next_round last lane rows some_lane within busy between behind = record {
 
 -- one lane more has no request left
 pub idle_more : (after place : ℕ) (rows : List LaneRow) (row : LaneRow) → AreIdleBetween after (place + 1) rows → slice_get rows place ≡ Some row → (row.current ≡ None) × (row.waiting ≡ []) → AreIdleBetween after (place + 1 + 1) rows
-idle_more after place rows row idle there none lane some most = by_case (less_cases lane (place + 1))
-  where
-    by_case : (lane < place + 1) ⊎ (place + 1 ≤ lane) → IsIdleLane lane rows
-    by_case (inl less) = idle lane some less
-    by_case (inr last) = let at : lane - 1 ≡ place = omega (arith, last, most) in (row, ap (slice_get rows) at ∙ there, none.0, none.1)
+idle_more after place rows row idle there none lane some most = elim (cases_lt lane (place + 1)) [
+  | inl less ↦ idle lane some less
+  | inr last ↦ let at : lane - 1 ≡ place = omega (arith, last, most) in (row, ap (slice_get rows) at ∙ there, none.0, none.1)
+]

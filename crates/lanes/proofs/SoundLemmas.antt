@@ -1,8 +1,8 @@
 -- What every world keeps stays with an event of a lane.
-use Rattle.std.proofs.Common.{◌≡◌, ◌<◌, ◌≤◌, ◌+◌, ◌-◌, ◌*◌, ◌^◌, ℕ, zero, suc, Bool, true, false, cond, List, [], ◌∷◌, map, slice_set, Option, Some, None, refl, sym, ◌∙◌, ap, subst, arith, inl, inr}
-use Rattle.std.specs.Prelude.{◌≢◌, ◌⊎◌, All, is_some, length, slice_get}
+use Rattle.std.proofs.Common.{◌≡◌, ◌<◌, ◌≤◌, ◌+◌, ◌-◌, ◌*◌, ◌^◌, ℕ, suc, false, cond, List, [], ◌∷◌, map, slice_set, Option, Some, None, refl, sym, ◌∙◌, ap, subst, arith, inl, inr, get_or}
+use Rattle.std.specs.Prelude.{◌≢◌, All, is_some, length, slice_get}
 use Rattle.std.proofs.lemmas.List.{length-set}
-use Rattle.std.proofs.lemmas.Option.{slice_get_within}
+use Rattle.std.proofs.lemmas.Option.{slice_get_within, slice_get_read}
 use Rattle.std.proofs.lemmas.List.Elements.{All-cons, All-head, All-tail, All-nil}
 use Rattle.disk_model.specs.Disk.{Faults, History, IsMoment}
 use Rattle.mdbox_base.specs.declared.replies.Reply.{Reply}
@@ -13,10 +13,11 @@ use Rattle.serving.specs.Serving.{AreIdle}
 use Rattle.serving.proofs.LaneLemmas.{get_set_other, get_set_same, nat_cases, one_some}
 use Rattle.serving.proofs.ServingLemmas.{all_at}
 use Rattle.task_steps.specs.Step.{ended_by}
+use Rattle.store_core.specs.Value.{StoreValue}
+use Rattle.lane_tasks.proofs.StepLemmas.{ran_before}
 use Rattle.lane_tasks.specs.Tasks.{IsReadyTask, claims_at}
 use Rattle.lane_tasks.specs.declared.task.Task.{Task}
-use Rattle.store_core.specs.Value.{StoreValue}
-use Rattle.lanes.specs.Rows.{LaneRow, RowGoesOn, after_event, lane_value, lanes_of, next_in_turn, queue_in}
+use Rattle.lanes.specs.Rows.{LaneRow, RowGoesOn, after_event, lane_value, lanes_of, queue_in}
 use Rattle.lanes.specs.Worlds.{AreAdded, AreIdleBetween, BeginsSome, IsIdleLane, IsSoundWorld, Works, WorldValue, entries_broken, entries_made, replied_behind, times_waiting}
 use Rattle.lanes.specs.declared.lane.LaneEvent.{LaneEvent}
 use Rattle.lanes.specs.declared.lane.Queued.{Queued}
@@ -28,11 +29,10 @@ use Rattle.lanes.proofs.WorldLemmas.{added_as, broken_at, entries_at}
 
 -- what holds of each row, and of one that comes in the place of another
 pub each_set : (P : LaneRow → Type 0) (rows : List LaneRow) (k : ℕ) (row now : LaneRow) → slice_get rows k ≡ Some row → P now → ((j : ℕ) (other : LaneRow) → slice_get rows j ≡ Some other → P other) → (j : ℕ) (other : LaneRow) → slice_get (slice_set rows k now) j ≡ Some other → P other
-each_set P rows k row now there own all j other is = by_case (nat_cases k j)
-  where
-    by_case : (k ≡ j) ⊎ (k ≢ j) → P other
-    by_case (inl e) = subst P (one_some now other (sym (get_set_same rows k now row there) ∙ (ap (λ (n : ℕ). slice_get (slice_set rows k now) n) e ∙ is))) own
-    by_case (inr apart) = all j other (sym (get_set_other rows k j now apart) ∙ is)
+each_set P rows k row now there own all j other is = elim (nat_cases k j) [
+  | inl e ↦ subst P (one_some now other (sym (get_set_same rows k now row there) ∙ (ap (λ (n : ℕ). slice_get (slice_set rows k now) n) e ∙ is))) own
+  | inr apart ↦ all j other (sym (get_set_other rows k j now apart) ∙ is)
+]
 
 waiting_after : (ended : Option Reply) (first : Queued) (waiting : List Queued) → All BeginsSome waiting → All BeginsSome (after_event ended first waiting).waiting
 waiting_after None first waiting all = all
@@ -62,11 +62,7 @@ replied_many None k counts = refl
 replied_many (Some given) k counts = length-set counts k _
 
 pub ran_then : {D : Type 0} → (k : ℕ) (old new : WorldValue D) (before after : Option History) (first second : Faults) → Works k old new before after first second → new.store.stopped ≡ false → old.store.stopped ≡ false
-ran_then k old new before after first second w runs = by_test old.store.stopped refl
-  where
-    by_test : (b : Bool) → old.store.stopped ≡ b → old.store.stopped ≡ false
-    by_test true is = absurd (let z : true ≡ false = sym (w.goes.goes.halted is) ∙ runs in cc z)
-    by_test false is = is
+ran_then k old new before after first second w = ran_before old.store.stopped new.store.stopped w.goes.goes.halted
 
 pub sound_on : {D : Type 0} → (k : ℕ) (old new : WorldValue D) (before after : Option History) (first second : Faults) → Works k old new before after first second → IsSoundWorld before old → IsSoundWorld after new
 sound_on {D} k old new before after first second w s = record {
@@ -120,6 +116,13 @@ event_unanswered k row now event old new before after first second world g histo
     let inside = place_within k row now event old new before after first second world g history s there in
     let same = g.goes.place_is in
     ap (slice_get world.replies) same ∙ in_turn_unanswered world.rows world.replies k row g.queued there g.was (omega (arith, inside, same)) s.once
+
+-- the row of a lane, as a call of a world reads it
+pub row_read : {D : Type 0} → (was world : WorldValue D) (lane : ℕ) (row : LaneRow) → was ≡ world → (1 ≤ lane) × (lane ≤ length world.rows) → row ≡ get_or was.rows (lane - 1) row → slice_get was.rows (lane - 1) ≡ Some row
+row_read was world lane row is inside read =
+    let low = inside.0 in
+    let high = subst (λ (w : WorldValue _). lane ≤ length w.rows) (sym is) inside.1 in
+    slice_get_read was.rows (length was.rows) (lane - 1) row refl (omega (arith, low, high)) read
 
 -- a lane with a request in turn isn't idle
 pub not_idle : (lane : ℕ) (rows : List LaneRow) (row : LaneRow) → slice_get rows (lane - 1) ≡ Some row → (row.current ≢ None) → IsIdleLane lane rows → ⊥

@@ -1,10 +1,10 @@
 -- Beside an event of another lane a task stands in the run with that event, which has come to the store; or the store is stopped, and the
 -- event did nothing to a file that the task removes.
 use Rattle.std.proofs.Common.{◌≡◌, ℕ, Bool, true, false, List, [], ◌∷◌, All, Option, Some, None, refl, sym, ◌∙◌, ap, subst, inl, inr}
-use Rattle.std.specs.Prelude.{◌≢◌, ◌⊎◌, ◌++◌, ◌==◌, ◌+◌, AllPairs, slice_get}
+use Rattle.std.specs.Prelude.{◌≢◌, ◌⊎◌, ◌++◌, ◌==◌, ◌+◌, AllPairs}
 use Rattle.std.specs.List.{list_any}
 use Rattle.std.specs.Option.{IfSome}
-use Rattle.std.proofs.lemmas.List.Elements.{All-cons, All-head, All-tail, All-nil, All-weaker}
+use Rattle.std.proofs.lemmas.List.Elements.{All-cons, All-nil, All-weaker, All-pop}
 use Rattle.disk_model.specs.Disk.{Faults, History}
 use Rattle.mdbox_base.specs.declared.progress.Did.{Did}
 use Rattle.mdbox_base.specs.declared.progress.Did.TheVariants as did
@@ -18,7 +18,7 @@ use Rattle.list_machine.specs.Run.{Pin, Run, RunEvent, and_then, is_one_of}
 use Rattle.journal.specs.Events.{DidNothing}
 use Rattle.journal.specs.Journal.{Broken, JournalStep, Requests}
 use Rattle.journal.specs.Makes.{StaysStopped}
-use Rattle.serving.specs.Lanes.{IsInTurn, LaneAt, LaneStands, LaneValue, said_by}
+use Rattle.serving.specs.Lanes.{IsInTurn, LaneStands, LaneValue, said_by}
 use Rattle.serving.specs.Serving.{IsServing}
 use Rattle.store_core.specs.Value.{StoreValue}
 use Rattle.task_steps.specs.Serves.{NoneStopped}
@@ -85,13 +85,9 @@ serves_as Was Is start script run journal broken replies began now lanes follow 
 
 -- ---- an event of a store that is stopped
 
-pub all_last : {X : Type 0} → (P : X → Type 0) (xs : List X) (x : X) → All P (xs ++ x ∷ []) → P x
-all_last P [] x all = All-head P x [] all
-all_last P (a ∷ xs) x all = all_last P xs x (All-tail P a (xs ++ x ∷ []) all)
-
 pairs_last : {X : Type 0} → (R : X → X → Type 0) (xs : List X) (y : X) → AllPairs R (xs ++ y ∷ []) → All (λ x. R x y) xs
 pairs_last R [] y pairs = All-nil (λ x. R x y)
-pairs_last R (x ∷ xs) y pairs = All-cons (λ a. R a y) x xs (all_last (R x) xs y (pairs_head R x (xs ++ y ∷ []) pairs)) (pairs_last R xs y (pairs_tail R x (xs ++ y ∷ []) pairs))
+pairs_last R (x ∷ xs) y pairs = All-cons (λ a. R a y) x xs (All-pop (R x) (xs ++ y ∷ []) xs (Some y) refl (pairs_head R x (xs ++ y ∷ []) pairs)).1 (pairs_last R xs y (pairs_tail R x (xs ++ y ∷ []) pairs))
 
 abbrev StopsLater : RunEvent → RunEvent → Type 0
 StopsLater a b = a.refused ≡ Some refusal.Stopped → (b.refused ≡ Some refusal.Stopped) ⊎ (b.refused ≡ Some refusal.NoMemory)
@@ -128,9 +124,7 @@ spares_file (stage.Removing file given) event nothing = (
   ap (λ (e : RunEvent). list_any (λ (p : Pin). p.file == file.0) e.pins) nothing,
   ap (λ (e : RunEvent). is_one_of e.removed file.0) nothing,
 )
-spares_file stage.First event nothing = tt
-spares_file (stage.Reading region) event nothing = tt
-spares_file (stage.Unpinning from given) event nothing = tt
+spares_file now event nothing = tt
 
 -- it did nothing, and spares every file
 pub spares_all : (t : Task) (event : RunEvent) → DidNothing event → SparesTask t event

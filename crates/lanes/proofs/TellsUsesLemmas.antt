@@ -1,10 +1,11 @@
 -- The run of a script that lanes serve tells who uses the files and instances of its store.
-use Rattle.std.proofs.Common.{◌≡◌, ◌<◌, ◌≤◌, ◌+◌, ◌-◌, ◌==◌, ◌&&◌, ◌||◌, ℕ, zero, suc, Bool, true, false, cond, List, [], ◌∷◌, map, length, Option, Some, None, refl, sym, ◌∙◌, ap, subst, arith, inl, inr}
+use Rattle.std.proofs.Common.{◌≡◌, ◌<◌, ◌≤◌, ◌+◌, ◌-◌, ◌==◌, ◌&&◌, ◌||◌, ℕ, suc, Bool, true, false, cond, List, [], ◌∷◌, map, length, Option, Some, None, refl, sym, ◌∙◌, ap, subst, arith, inl, inr}
 use Rattle.std.specs.Prelude.{◌⊎◌, Contains, filter, is_none, not, slice_get}
 use Rattle.std.specs.List.{list_any}
-use Rattle.std.proofs.lemmas.Bool.{eq-eqb, eqb-true}
+use Rattle.std.proofs.lemmas.Bool.{eq-eqb, eqb-true, and_parts, and_from, or_cases, or_left, or_right, not_from_false, not-true, cases_lt}
 use Rattle.std.proofs.lemmas.List.Sums.{sum_by-cons}
 use Rattle.std.proofs.lemmas.Option.{slice_get_within}
+use Rattle.model_octets.proofs.SearchLemmas.{both_same}
 use Rattle.disk_model.specs.Disk.{History}
 use Rattle.mdbox_base.specs.declared.entries.InstRow.{InstRow}
 use Rattle.mdbox_base.specs.declared.replies.Reply.{Reply}
@@ -22,8 +23,9 @@ use Rattle.storage_files.specs.Files.{is_emptied_in, is_taken_in}
 use Rattle.store_core.specs.Value.{StoreValue}
 use Rattle.task_claims.specs.Claims.{AddsUp, Claims, Emptied, Held, Taken, Thing, amount_in, one_if, total_claims}
 use Rattle.task_steps.specs.Step.{Seen}
+use Rattle.serving.proofs.TakenLemmas.{found_at, waiting_none, any_kept, one_of_all}
 use Rattle.serving.specs.Accounts.{LanesAccount, lane_claims}
-use Rattle.serving.specs.Lanes.{AreBehind, IsInTurn, LaneStands, LaneValue, said_by}
+use Rattle.serving.specs.Lanes.{IsInTurn, LaneStands, LaneValue, said_by}
 use Rattle.serving.specs.Serving.{HaveLanes, IsServing}
 use Rattle.serving.specs.Taken.{IsInUse}
 use Rattle.serving.proofs.LaneLemmas.{first_or_behind, none_waits, one_some}
@@ -41,68 +43,15 @@ use Rattle.lanes.proofs.UnpinnedLemmas.{HoldsNothing, answered_holds_nothing}
 
 -- ---- tests
 
-and_true : (a b : Bool) → (a && b) ≡ true → (a ≡ true) × (b ≡ true)
-and_true true b e = (refl, e)
-and_true false b e = absurd (let k : false ≡ true = e in cc k)
-
-both_true : (a b : Bool) → a ≡ true → b ≡ true → (a && b) ≡ true
-both_true true b x y = y
-both_true false b x y = absurd (let k : false ≡ true = x in cc k)
-
-or_true : (a b : Bool) → (a || b) ≡ true → (a ≡ true) ⊎ (b ≡ true)
-or_true true b e = inl refl
-or_true false b e = inr e
-
-first_true : (a b : Bool) → a ≡ true → (a || b) ≡ true
-first_true true b e = refl
-first_true false b e = absurd (let k : false ≡ true = e in cc k)
-
-second_true : (a b : Bool) → b ≡ true → (a || b) ≡ true
-second_true true b e = refl
-second_true false b e = e
-
-not_true : (b : Bool) → b ≡ false → not b ≡ true
-not_true true e = absurd (let k : true ≡ false = e in cc k)
-not_true false e = refl
-
-was_not : (b : Bool) → not b ≡ true → b ≡ false
-was_not true e = absurd (let k : false ≡ true = e in cc k)
-was_not false e = refl
-
 no_reply : (o : Option Reply) → is_none o ≡ true → o ≡ None
 no_reply None e = refl
 no_reply (Some given) e = absurd (let k : false ≡ true = e in cc k)
 
-agree : (a b : Bool) → (a ≡ true → b ≡ true) → (b ≡ true → a ≡ true) → a ≡ b
-agree true b there back = sym (there refl)
-agree false true there back = absurd (let k : false ≡ true = back refl in cc k)
-agree false false there back = refl
-
 -- ---- lists
-
--- what passes a test somewhere
-found_at : {X : Type 0} → (test : X → Bool) (xs : List X) → list_any test xs ≡ true → (n : ℕ) × (x : X) × (slice_get xs n ≡ Some x) × (test x ≡ true)
-found_at test [] e = absurd (let k : false ≡ true = e in cc k)
-found_at {X} test (a ∷ more) e = by_case (or_true (test a) (list_any test more) e) (found_at test more)
-  where
-    by_case : (test a ≡ true) ⊎ (list_any test more ≡ true) → (list_any test more ≡ true → (n : ℕ) × (x : X) × (slice_get more n ≡ Some x) × (test x ≡ true)) → (n : ℕ) × (x : X) × (slice_get (a ∷ more) n ≡ Some x) × (test x ≡ true)
-    by_case (inl is) later = (0, a, refl, is)
-    by_case (inr rest) later = let r = later rest in (suc r.0, r.1, r.2, r.3)
 
 -- it passes among a request's own events
 own_any : (test : RunEvent → Bool) (events : List RunEvent) (n place : ℕ) (event : RunEvent) → slice_get events n ≡ Some event → event.request ≡ place → test event ≡ true → list_any test (filter (λ e. e.request == place) events) ≡ true
-own_any test [] n place event there at is = absurd (let k : None ≡ Some event = there in cc k)
-own_any test (a ∷ more) zero place event there at is = kept (one_some a event there)
-  where
-    kept : a ≡ event → list_any test (filter (λ e. e.request == place) (a ∷ more)) ≡ true
-    kept same =
-        let own : (a.request == place) ≡ true = eq-eqb a.request place (ap (λ (e : RunEvent). e.request) same ∙ at) in
-        ap (λ (b : Bool). list_any test (cond b (a ∷ filter (λ e. e.request == place) more) (filter (λ e. e.request == place) more))) own ∙ first_true (test a) (list_any test (filter (λ e. e.request == place) more)) (ap test same ∙ is)
-own_any test (a ∷ more) (suc n) place event there at is = by_keep (a.request == place) refl (own_any test more n place event there at is)
-  where
-    by_keep : (b : Bool) → (a.request == place) ≡ b → list_any test (filter (λ e. e.request == place) more) ≡ true → list_any test (filter (λ e. e.request == place) (a ∷ more)) ≡ true
-    by_keep true e h = ap (λ (b : Bool). list_any test (cond b (a ∷ filter (λ e. e.request == place) more) (filter (λ e. e.request == place) more))) e ∙ second_true (test a) (list_any test (filter (λ e. e.request == place) more)) h
-    by_keep false e h = ap (λ (b : Bool). list_any test (cond b (a ∷ filter (λ e. e.request == place) more) (filter (λ e. e.request == place) more))) e ∙ h
+own_any test events n place event there at is = any_kept (λ e. e.request == place) test events n event there (eq-eqb event.request place at) is
 
 -- and what a request's own event passes, an event of the run does
 any_own : (test told : RunEvent → Bool) (place : ℕ) (events : List RunEvent) → ((e : RunEvent) → e.request ≡ place → test e ≡ true → told e ≡ true) → list_any test (filter (λ e. e.request == place) events) ≡ true → list_any told events ≡ true
@@ -110,16 +59,16 @@ any_own test told place [] tells is = absurd (let k : false ≡ true = is in cc 
 any_own test told place (a ∷ more) tells is = by_keep (a.request == place) refl (any_own test told place more tells)
   where
     by_test : (list_any test (filter (λ e. e.request == place) more) ≡ true → list_any told more ≡ true) → a.request ≡ place → (test a ≡ true) ⊎ (list_any test (filter (λ e. e.request == place) more) ≡ true) → (told a || list_any told more) ≡ true
-    by_test later at (inl t) = first_true (told a) (list_any told more) (tells a at t)
-    by_test later at (inr rest) = second_true (told a) (list_any told more) (later rest)
+    by_test later at (inl t) = or_left (told a) (list_any told more) (tells a at t)
+    by_test later at (inr rest) = or_right (told a) (list_any told more) (later rest)
 
     by_keep : (b : Bool) → (a.request == place) ≡ b → (list_any test (filter (λ e. e.request == place) more) ≡ true → list_any told more ≡ true) → (told a || list_any told more) ≡ true
     by_keep true e later =
         let kept : list_any test (a ∷ filter (λ e. e.request == place) more) ≡ true = sym (ap (λ (b : Bool). list_any test (cond b (a ∷ filter (λ e. e.request == place) more) (filter (λ e. e.request == place) more))) e) ∙ is in
-        by_test later (eqb-true a.request place e) (or_true (test a) (list_any test (filter (λ e. e.request == place) more)) kept)
+        by_test later (eqb-true a.request place e) (or_cases (test a) (list_any test (filter (λ e. e.request == place) more)) kept)
     by_keep false e later =
         let rest : list_any test (filter (λ e. e.request == place) more) ≡ true = sym (ap (λ (b : Bool). list_any test (cond b (a ∷ filter (λ e. e.request == place) more) (filter (λ e. e.request == place) more))) e) ∙ is in
-        second_true (told a) (list_any told more) (later rest)
+        or_right (told a) (list_any told more) (later rest)
 
 -- ---- the task of a request
 
@@ -139,14 +88,6 @@ pub record TaskStands {D : Type 0} (store : StoreValue D) (history : Option Hist
 no_events : (events : List RunEvent) (n : ℕ) (event : RunEvent) → slice_get events n ≡ Some event → filter (λ e. e.request == event.request) events ≡ [] → ⊥
 no_events events n event there none =
     let some = own_any (λ e. true) events n event.request event there refl refl in let k : false ≡ true = sym (ap (list_any (λ (e : RunEvent). true)) none) ∙ some in cc k
-
-behind_unbegun : (script : Requests) (run : Run) (lane place : ℕ) (rest : List ℕ) (i : ℕ) → AreBehind script run lane place rest → Contains rest i → own_events i run ≡ []
-behind_unbegun script run lane place [] i behind is = absurd (none_waits i is)
-behind_unbegun script run lane place (next ∷ rest) i behind is = by_case (behind_unbegun script run lane next rest i behind.3) (first_or_behind next rest i is)
-  where
-    by_case : (Contains rest i → own_events i run ≡ []) → (i ≡ next) ⊎ Contains rest i → own_events i run ≡ []
-    by_case more (inl e) = ap (λ (n : ℕ). own_events n run) e ∙ behind.2
-    by_case more (inr is) = more is
 
 -- the task of a request that has an event and no reply
 pub task_of_event : {D : Type 0} → (start : Lists) (script : Requests) (run : Run) (journal : List JournalStep) (broken : Broken) (replies : List (Option Reply)) (began now : Seen) (lanes : List (LaneValue Task)) (store : StoreValue D) (history : Option History) (n : ℕ) (event : RunEvent)
@@ -185,7 +126,7 @@ task_of_event {D} start script run journal broken replies began now lanes store 
 
     by_first : (first : ℕ) (rest : List ℕ) → IsInTurn (stands_in store history) script run journal replies (next.asked.0 - 1 + 1) lane.0 (first ∷ rest) → (event.request ≡ first) ⊎ Contains rest event.request → TaskStands store history script run journal lanes event.request
     by_first first rest turn (inl same) = by_task lane.0.task refl first same turn.0.0 turn.0.1.asked turn.0.2
-    by_first first rest turn (inr waits) = absurd (some (behind_unbegun script run (next.asked.0 - 1 + 1) first rest event.request turn.1 waits))
+    by_first first rest turn (inr waits) = absurd (some (waiting_none script run (next.asked.0 - 1 + 1) first rest event.request turn.1 waits))
 
     by_queue : (queue : List ℕ) → IsInTurn (stands_in store history) script run journal replies (next.asked.0 - 1 + 1) lane.0 queue → Contains queue event.request → TaskStands store history script run journal lanes event.request
     by_queue [] turn waits = absurd (none_waits event.request waits)
@@ -198,29 +139,14 @@ task_of_event {D} start script run journal broken replies began now lanes store 
 
 -- ---- the claims of a task
 
-one_of_all : (lanes : List (LaneValue Task)) (k : ℕ) (value : LaneValue Task) (thing : Thing) → slice_get lanes k ≡ Some value → lane_claims claims_at value thing ≤ total_claims (map (lane_claims claims_at) lanes) thing
-one_of_all [] k value thing there = absurd (let z : None ≡ Some value = there in cc z)
-one_of_all (a ∷ more) zero value thing there =
-    let same : lane_claims claims_at a thing ≡ lane_claims claims_at value thing = ap (λ (v : LaneValue Task). lane_claims claims_at v thing) (one_some a value there) in
-    let s = sum_by-cons (λ (c : Claims). c thing) (lane_claims claims_at a) (map (lane_claims claims_at) more) in
-    omega (arith, same, s)
-one_of_all (a ∷ more) (suc k) value thing there =
-    let h = one_of_all more k value thing there in
-    let s = sum_by-cons (λ (c : Claims). c thing) (lane_claims claims_at a) (map (lane_claims claims_at) more) in
-    omega (arith, h, s)
-
-zero_or_some : (n : ℕ) → (n ≡ 0) ⊎ (1 ≤ n)
-zero_or_some zero = inl refl
-zero_or_some (suc n) = inr (omega arith)
-
 some_claim : (lanes : List (LaneValue Task)) (thing : Thing) → 1 ≤ total_claims (map (lane_claims claims_at) lanes) thing → (k : ℕ) × (value : LaneValue Task) × (slice_get lanes k ≡ Some value) × (1 ≤ lane_claims claims_at value thing)
 some_claim [] thing some = absurd (let h : 1 ≤ 0 = some in omega (arith, h))
-some_claim (a ∷ more) thing some = by_case (zero_or_some (lane_claims claims_at a thing)) (some_claim more thing)
-  where
-    by_case : (lane_claims claims_at a thing ≡ 0) ⊎ (1 ≤ lane_claims claims_at a thing) → (1 ≤ total_claims (map (lane_claims claims_at) more) thing → (k : ℕ) × (value : LaneValue Task) × (slice_get more k ≡ Some value) × (1 ≤ lane_claims claims_at value thing)) → (k : ℕ) × (value : LaneValue Task) × (slice_get (a ∷ more) k ≡ Some value) × (1 ≤ lane_claims claims_at value thing)
-    by_case (inr mine) later = (0, a, refl, mine)
-    by_case (inl none) later =
-        let s = sum_by-cons (λ (c : Claims). c thing) (lane_claims claims_at a) (map (lane_claims claims_at) more) in let r = later (omega (arith, none, s, some)) in (suc r.0, r.1, r.2, r.3)
+some_claim (a ∷ more) thing some = elim (cases_lt 0 (lane_claims claims_at a thing)) [
+  | inl mine ↦ (0, a, refl, mine)
+  | inr none ↦
+      let s = sum_by-cons (λ (c : Claims). c thing) (lane_claims claims_at a) (map (lane_claims claims_at) more) in
+      let r = some_claim more thing (omega (arith, none, s, some)) in (suc r.0, r.1, r.2, r.3)
+]
 
 -- a task claims a thing of which the store has some, and its request isn't answered
 pub record TaskClaims {D : Type 0} (thing : Thing) (store : StoreValue D) (history : Option History) (script : Requests) (run : Run) (journal : List JournalStep) (lanes : List (LaneValue Task)) : Type 0 where
@@ -274,20 +200,20 @@ taken_told : {D : Type 0} → (store : StoreValue D) (history : Option History) 
 taken_told store history script run journal lanes place file at low claims =
     let has = claimed_taken at.task store history at.asked run place (said_by journal place) file at.stands low claims in
     any_own (took_file file) (λ e. took_file file e && (is_none (reply_of e.request run) && not (gave_back file (own_events e.request run)))) place run.events
-    (λ e same took. both_true (took_file file e) _ took
-    (both_true (is_none (reply_of e.request run)) _ (ap (λ (p : ℕ). is_none (reply_of p run)) same ∙ ap (λ (o : Option Reply). is_none o) at.unanswered) (not_true (gave_back file (own_events e.request run)) (ap (λ (p : ℕ). gave_back file (own_events p run)) same ∙ has.1))))
+    (λ e same took. and_from (took_file file e) _ took
+    (and_from (is_none (reply_of e.request run)) _ (ap (λ (p : ℕ). is_none (reply_of p run)) same ∙ ap (λ (o : Option Reply). is_none o) at.unanswered) (not_from_false (gave_back file (own_events e.request run)) (ap (λ (p : ℕ). gave_back file (own_events p run)) same ∙ has.1))))
     has.0
 
 uses_told : {D : Type 0} → (store : StoreValue D) (history : Option History) (script : Requests) (run : Run) (journal : List JournalStep) (lanes : List (LaneValue Task)) (place : ℕ) (instance : InstRow) → TaskStands store history script run journal lanes place → UsesInstance instance (own_events place run)
     → (is_held run instance || is_pinned_instance run instance) ≡ true
 uses_told store history script run journal lanes place instance at (inl found) =
-    first_true (is_held run instance) (is_pinned_instance run instance)
+    or_left (is_held run instance) (is_pinned_instance run instance)
     (any_own (finds_instance instance) (λ e. is_none (reply_of e.request run) && finds_instance instance e) place run.events
-    (λ e same is. both_true (is_none (reply_of e.request run)) (finds_instance instance e) (ap (λ (p : ℕ). is_none (reply_of p run)) same ∙ ap (λ (o : Option Reply). is_none o) at.unanswered) is) found)
+    (λ e same is. and_from (is_none (reply_of e.request run)) (finds_instance instance e) (ap (λ (p : ℕ). is_none (reply_of p run)) same ∙ ap (λ (o : Option Reply). is_none o) at.unanswered) is) found)
 uses_told store history script run journal lanes place instance at (inr pinned) =
-    second_true (is_held run instance) (is_pinned_instance run instance)
+    or_right (is_held run instance) (is_pinned_instance run instance)
     (any_own (pins_instance instance) (λ e. pins_instance instance e && not (has_unpinned e.request run)) place run.events
-    (λ e same is. both_true (pins_instance instance e) _ is (not_true (has_unpinned e.request run) (ap (λ (p : ℕ). has_unpinned p run) same ∙ pinned.1))) pinned.0)
+    (λ e same is. and_from (pins_instance instance e) _ is (not_from_false (has_unpinned e.request run) (ap (λ (p : ℕ). has_unpinned p run) same ∙ pinned.1))) pinned.0)
 
 still_pinned : (run : Run) (instance : InstRow) (n : ℕ) (event : RunEvent) → slice_get run.events n ≡ Some event → pins_instance instance event ≡ true → has_unpinned event.request run ≡ false → HoldsNothing (own_events event.request run) → ⊥
 still_pinned run instance n event there pinned still (inl bare) = let k : false ≡ true = sym (bare instance) ∙ own_any (pins_instance instance) run.events n event.request event there refl pinned in cc k
@@ -296,16 +222,16 @@ still_pinned run instance n event there pinned still (inr unpinned) = let k : fa
 pub tells_uses : {D : Type 0} → (start : Lists) (script : Requests) (run : Run) (journal : List JournalStep) (broken : Broken) (replies : List (Option Reply)) (began now : Seen) (lanes : List (LaneValue Task)) (store : StoreValue D) (history : Option History)
     → IsServing (stands_in store history) start script run journal broken replies began now lanes → HaveLanes script lanes → LanesAccount claims_at IsReadyTask store history lanes → now.stopped ≡ false → store.stopped ≡ false → TellsUses run store
 tells_uses {D} start script run journal broken replies began now lanes store history s have accounts running runs = record {
-  taken = λ file some. agree (is_taken run file) (is_taken_in file store.files.files || is_emptied_in file store.files.files) (λ is. in_use file (uses_taken start script run journal broken replies began now store history lanes s have accounts.adds_up file some is)) (used file some);
-  used = λ instance is. by_use instance (or_true (is_held run instance) (is_pinned_instance run instance) is);
+  taken = λ file some. both_same (is_taken run file) (is_taken_in file store.files.files || is_emptied_in file store.files.files) (λ is. in_use file (uses_taken start script run journal broken replies began now store history lanes s have accounts.adds_up file some is)) (used file some);
+  used = λ instance is. by_use instance (or_cases (is_held run instance) (is_pinned_instance run instance) is);
   held = λ instance knows some.
       let c = task_of_claim start script run journal broken replies began now lanes store history (Held instance.id) s accounts.adds_up some in
       uses_told store history script run journal lanes c.place instance c.at (held_told c.at.task store history c.at.asked run c.place (said_by journal c.place) instance c.at.stands (accounts.ready c.at.k c.at.value c.at.there c.at.task c.at.has) knows c.claims);
 }
   where
     in_use : (file : ℕ) → IsInUse store file → (is_taken_in file store.files.files || is_emptied_in file store.files.files) ≡ true
-    in_use file (inl taken) = first_true (is_taken_in file store.files.files) (is_emptied_in file store.files.files) taken
-    in_use file (inr emptied) = second_true (is_taken_in file store.files.files) (is_emptied_in file store.files.files) emptied
+    in_use file (inl taken) = or_left (is_taken_in file store.files.files) (is_emptied_in file store.files.files) taken
+    in_use file (inr emptied) = or_right (is_taken_in file store.files.files) (is_emptied_in file store.files.files) emptied
 
     by_file : (file : ℕ) → 1 ≤ file → (is_taken_in file store.files.files ≡ true) ⊎ (is_emptied_in file store.files.files ≡ true) → is_taken run file ≡ true
     by_file file low (inl taken) =
@@ -316,13 +242,13 @@ tells_uses {D} start script run journal broken replies began now lanes store his
         taken_told store history script run journal lanes c.place file c.at low (inr c.claims)
 
     used : (file : ℕ) → 1 ≤ file → (is_taken_in file store.files.files || is_emptied_in file store.files.files) ≡ true → is_taken run file ≡ true
-    used file low is = by_file file low (or_true (is_taken_in file store.files.files) (is_emptied_in file store.files.files) is)
+    used file low is = by_file file low (or_cases (is_taken_in file store.files.files) (is_emptied_in file store.files.files) is)
 
     -- what a task claims is held
     claimed : (place : ℕ) (instance : InstRow) (at : TaskStands store history script run journal lanes place) → 1 ≤ claims_at at.task (Held instance.id) → 1 ≤ holders_in instance.id store.instances.known
     claimed place instance at some =
         let mine : lane_claims claims_at at.value (Held instance.id) ≡ claims_at at.task (Held instance.id) = ap (λ (o : Option Task). lane_claims claims_at (record at.value { task = o }) (Held instance.id)) at.has in
-        let all = one_of_all lanes at.k at.value (Held instance.id) at.there in
+        let all = one_of_all claims_at lanes at.k at.value (Held instance.id) at.there in
         let a = accounts.adds_up (Held instance.id) in
         omega (arith, some, mine, all, a)
 
@@ -358,9 +284,9 @@ tells_uses {D} start script run journal broken replies began now lanes store his
     by_use : (instance : InstRow) → (is_held run instance ≡ true) ⊎ (is_pinned_instance run instance ≡ true) → (1 ≤ holders_in instance.id store.instances.known) ⊎ (is_instance_named store.map instance.id.0 ≡ true)
     by_use instance (inl is) =
         let found = found_at (λ e. is_none (reply_of e.request run) && finds_instance instance e) run.events is in
-        let both = and_true (is_none (reply_of found.1.request run)) (finds_instance instance found.1) found.3 in
+        let both = and_parts (is_none (reply_of found.1.request run)) (finds_instance instance found.1) found.3 in
         by_found instance found.0 found.1 found.2 (no_reply (reply_of found.1.request run) both.0) both.1
     by_use instance (inr is) =
         let found = found_at (λ e. pins_instance instance e && not (has_unpinned e.request run)) run.events is in
-        let both = and_true (pins_instance instance found.1) (not (has_unpinned found.1.request run)) found.3 in
-        inl (by_pinned instance found.0 found.1 found.2 both.0 (was_not (has_unpinned found.1.request run) both.1) (reply_of found.1.request run) refl)
+        let both = and_parts (pins_instance instance found.1) (not (has_unpinned found.1.request run)) found.3 in
+        inl (by_pinned instance found.0 found.1 found.2 both.0 (not-true (has_unpinned found.1.request run) both.1) (reply_of found.1.request run) refl)

@@ -1,15 +1,15 @@
 -- The trace of a world as its lanes take turns, and as they are finished.
-use Rattle.std.proofs.Common.{◌≡◌, ◌≤◌, ◌+◌, ◌-◌, ◌^◌, ℕ, zero, suc, Bool, true, false, List, [], ◌∷◌, ◌++◌, map, slice_set, Option, Some, None, refl, sym, ◌∙◌, ap, subst, arith}
-use Rattle.std.specs.Prelude.{◌≢◌, length, slice_get}
+use Rattle.std.proofs.Common.{◌≡◌, ◌≤◌, ◌+◌, ◌-◌, ◌^◌, ℕ, Bool, true, false, List, [], ◌∷◌, ◌++◌, map, slice_set, Option, Some, None, refl, sym, ◌∙◌, ap, subst}
+use Rattle.std.specs.Prelude.{length}
 use Rattle.std.proofs.lemmas.List.{append-nil}
+use Rattle.std.proofs.lemmas.Bool.{false_from_ne_true}
 use Rattle.disk_model.specs.Disk.{Faults, History}
 use Rattle.model_lists.specs.Lists.{Lists}
 use Rattle.list_machine.specs.Run.{Run, RunEvent, and_then}
 use Rattle.journal.specs.Journal.{Broken, JournalStep, Requests}
-use Rattle.serving.specs.Serving.{AreIdle}
 use Rattle.serving.specs.Lanes.{LaneValue}
 use Rattle.serving.specs.Turns.{IsTraceOf, LaneTurn, MadeEvents, lanes_worked}
-use Rattle.serving.proofs.TurnLemmas.{trace_finishing, trace_idle, trace_on}
+use Rattle.serving.proofs.TurnLemmas.{trace_finishing, trace_on}
 use Rattle.task_steps.specs.Step.{Seen}
 use Rattle.lane_tasks.specs.declared.task.Task.{Task}
 use Rattle.lanes.specs.Rows.{LaneRow, lane_value, lanes_of}
@@ -18,7 +18,7 @@ use Rattle.lanes.specs.Worlds.{IsIdleLane, IsLaneEvent, IsSoundWorld, IsWorldOf,
 use Rattle.lanes.specs.declared.lane.Queued.{Queued}
 use Rattle.lanes.proofs.GoingLemmas.{queue_is, rows_set, value_at}
 use Rattle.lanes.proofs.SoundLemmas.{busy, not_idle}
-use Rattle.lanes.proofs.WorldLemmas.{works_by}
+use Rattle.lanes.proofs.WorldLemmas.{works_by, lane_back}
 
 -- ---- turns
 
@@ -54,11 +54,7 @@ was_busy k old new before after first second w none = absurd (let z : w.goes.que
 
 -- a world of which a lane has a request left wasn't finished
 unfinished : {D : Type 0} → (k : ℕ) (old new : WorldValue D) (before after : Option History) (first second : Faults) → Works k old new before after first second → IsSoundWorld before old → old.finished ≡ false
-unfinished k old new before after first second w s = by_test old.finished refl
-  where
-    by_test : (b : Bool) → old.finished ≡ b → b ≡ false
-    by_test true is = absurd (busy old.rows k w.row w.goes.queued w.there w.goes.was (s.idle is))
-    by_test false is = refl
+unfinished k old new before after first second w s = false_from_ne_true old.finished (λ is. busy old.rows k w.row w.goes.queued w.there w.goes.was (s.idle is))
 
 rows_are : {D : Type 0} → (k : ℕ) (old new : WorldValue D) (before after : Option History) (first second : Faults) → (w : Works k old new before after first second) → slice_set (lanes_of old.rows) k (lane_value w.now) ≡ lanes_of new.rows
 rows_are k old new before after first second w = sym (rows_set old.rows k w.now) ∙ ap lanes_of (sym w.rows_are)
@@ -80,13 +76,10 @@ one_event {D} lane old new before after first second some clock few w trace = re
         g.added,
         g.more,
         g.broke,
-        subst (λ (n : ℕ). AddsEvent n w.event run old.store.map before after first second g.added g.more failed g.broke) lane_is g.adds,
+        subst (λ (n : ℕ). AddsEvent n w.event run old.store.map before after first second g.added g.more failed g.broke) (sym (lane_back lane some)) g.adds,
         g.is new.finished new.turns (trace start script run steps failed began world g.added g.adds.lane_is),
       );
 }
-  where
-    lane_is : lane - 1 + 1 ≡ lane
-    lane_is = omega (arith, some)
 
 -- A turn of a lane that has a request left.
 lane_event : {D : Type 0} → (lane : ℕ) (old new : WorldValue D) (before after : Option History) (first second : Faults) → 1 ≤ lane → Works (lane - 1) (record old { turns = old.turns ++ turn_of lane false ∷ [] }) new before after first second → IsSoundWorld before old
@@ -96,9 +89,6 @@ lane_event {D} lane old new before after first second some works sound = (one_ev
     w : Works (lane - 1) old (record new { turns = old.turns }) before after first second
     w = other_turns (lane - 1) old new (record new { turns = old.turns }) (old.turns ++ turn_of lane false ∷ []) old.finished before after first second works (ap (λ (b : Bool). record new { turns = old.turns; finished = b }) works.finished_is)
 
-    lane_is : lane - 1 + 1 ≡ lane
-    lane_is = omega (arith, some)
-
     none : old.finished ≡ false
     none = unfinished (lane - 1) old (record new { turns = old.turns }) before after first second w sound
 
@@ -106,7 +96,7 @@ lane_event {D} lane old new before after first second some works sound = (one_ev
     trace start script run steps failed began world added own =
         subst (λ (b : Bool). IsTraceOf b new.turns (and_then run added) (lanes_of new.rows)) (sym (works.finished_is ∙ none))
         (subst (λ (ts : List LaneTurn). IsTraceOf false ts (and_then run added) (lanes_of new.rows)) (sym works.turns_are)
-        (subst (λ (n : ℕ). IsTraceOf false (old.turns ++ turn_of n false ∷ []) (and_then run added) (lanes_of new.rows)) lane_is
+        (subst (λ (n : ℕ). IsTraceOf false (old.turns ++ turn_of n false ∷ []) (and_then run added) (lanes_of new.rows)) (sym (lane_back lane some))
         (subst (λ (lanes : List (LaneValue Task)). IsTraceOf false (old.turns ++ turn_of (lane - 1 + 1) false ∷ []) (and_then run added) lanes) (rows_are (lane - 1) old (record new { turns = old.turns }) before after first second w)
         (trace_on old.turns run (lanes_of old.rows) (lane - 1) (lane_value w.row) (lane_value w.now) added (value_at old.rows (lane - 1) w.row w.there) (was_busy (lane - 1) old (record new { turns = old.turns }) before after first second w) own
         (subst (λ (b : Bool). IsTraceOf b old.turns run (lanes_of old.rows)) none world.trace)))))

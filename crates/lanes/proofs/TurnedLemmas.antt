@@ -58,10 +58,7 @@ rounds_events lanes old new before after first second clock few g = rounds_untra
 
 -- Events, and then others.
 pub order_then : {D : Type 0} → (lanes more : List ℕ) (old mid new : WorldValue D) (before between after : Option History) (first counted second : Faults) → GoesOnInOrder lanes old mid before between first counted → GoesOnInOrder more mid new between after counted second → GoesOnInOrder (lanes ++ more) old new before after first second
-order_then [] more old mid new before between after first counted second g h =
-    subst (λ (w : WorldValue _). GoesOnInOrder more w new before after first second) g.0
-    (subst (λ (t : Option History). GoesOnInOrder more mid new t after first second) g.1
-    (subst (λ (f : Faults). GoesOnInOrder more mid new between after f second) g.2 h))
+order_then [] more old mid new before between after first counted second g h = rw (← g.0, ← g.1, ← g.2) h
 order_then (lane ∷ lanes) more old mid new before between after first counted second g h =
     (g.0, g.1, g.2, g.3, g.4, order_then lanes more g.0 mid new g.1 between after g.2 counted second g.5 h)
 
@@ -91,21 +88,7 @@ idle_world lane start script run steps failed began then counted old some none i
 
 -- a turn more in a world's trace, which is all that changes
 keeps_traced : {D : Type 0} → (world : WorldValue D) (turns : List LaneTurn) (history : Option History) (faults : Faults) → KeepsWorld world (record world { turns = turns }) history history faults faults
-keeps_traced world turns history faults = let k = keeps_itself world history faults in record {
-  replies = k.replies;
-  requests = k.requests;
-  scripted = k.scripted;
-  lanes = k.lanes;
-  journal = k.journal;
-  broken = k.broken;
-  stopped = k.stopped;
-  grows = k.grows;
-  reads = k.reads;
-  changes = k.changes;
-  unfailed = k.unfailed;
-  began = k.began;
-  room = k.room;
-}
+keeps_traced world turns history faults = let k = keeps_itself world history faults in assumption k
 
 module _ {D : Type 0} (history : D → Option History) (faults : D → Faults) where
   -- ---- one more

@@ -3,7 +3,7 @@ use Rattle.std.proofs.Common.{◌≡◌, ◌≤◌, ◌&&◌, ◌||◌, ℕ, zer
 use Rattle.std.specs.Prelude.{◌≢◌, ◌⊎◌, is_none, slice_get, if◌then◌else◌}
 use Rattle.std.specs.List.{list_any}
 use Rattle.std.specs.Option.{IfSome, option_or}
-use Rattle.std.proofs.lemmas.Bool.{eq-eqb, ne_eqb}
+use Rattle.std.proofs.lemmas.Bool.{eq-eqb, ne_eqb, or_left, or_right, cases_cond}
 use Rattle.std.proofs.lemmas.List.{take_all}
 use Rattle.std.proofs.lemmas.List.Folds.{list_any-append}
 use Rattle.mdbox_base.specs.declared.entries.InstRow.{InstRow}
@@ -42,11 +42,7 @@ later : (event : RunEvent) (own : List RunEvent) (part : EventPart) → (own ≡
 later event own First some s = absurd (some s)
 later event own ReadsPiece some s = tt
 later event own Unpins some s = tt
-later event own RemovesFile some s = either (is_unpinning event) (list_any is_unpinning own) s
-  where
-    either : (a b : Bool) → b ≡ true → (a || b) ≡ true
-    either true b e = refl
-    either false b e = e
+later event own RemovesFile some s = or_right (is_unpinning event) (list_any is_unpinning own) s
 later event own part some s = absurd s
 
 no_part : {X : Type 0} → (part : EventPart) → None ≡ Some part → X
@@ -59,17 +55,15 @@ unpinned_last : (event : RunEvent) → event.part ≡ Unpins → event.refused �
 unpinned_last event part refused = ap (λ (o : Option Refusal). is_none o && is_unpinning_part event.part) refused ∙ ap is_unpinning_part part
 
 behind_one : (run : Run) (event : RunEvent) (now part : EventPart) → event.part ≡ now → event.refused ≡ None → behind_fetch run event now ≡ Some part → StandsBefore (event ∷ []) part
-behind_one run event Unpins part at none is = by_test (leaves_doomed event.request run) is
-  where
-    by_test : (b : Bool) → (if b then Some RemovesFile else None) ≡ Some part → StandsBefore (event ∷ []) part
-    by_test true e = subst (StandsBefore (event ∷ [])) (one_part RemovesFile part e) (ap (λ (b : Bool). b || false) (unpinned_last event at none))
-    by_test false e = no_part part e
+behind_one run event Unpins part at none is = elim (cases_cond (leaves_doomed event.request run) (Some RemovesFile) None (Some part) (sym is)) [
+  | inl e ↦ subst (StandsBefore (event ∷ [])) (one_part RemovesFile part (sym e)) (ap (λ (b : Bool). b || false) (unpinned_last event at none))
+  | inr e ↦ no_part part (sym e)
+]
 behind_one run event RemovesFile part at none is = no_part part is
-behind_one run event now part at none is = by_test (piece_left event.request run) is
-  where
-    by_test : (b : Bool) → (if b then Some ReadsPiece else Some Unpins) ≡ Some part → StandsBefore (event ∷ []) part
-    by_test true e = subst (StandsBefore (event ∷ [])) (one_part ReadsPiece part e) tt
-    by_test false e = subst (StandsBefore (event ∷ [])) (one_part Unpins part e) tt
+behind_one run event now part at none is = elim (cases_cond (piece_left event.request run) (Some ReadsPiece) (Some Unpins) (Some part) (sym is)) [
+  | inl e ↦ subst (StandsBefore (event ∷ [])) (one_part ReadsPiece part (sym e)) tt
+  | inr e ↦ subst (StandsBefore (event ∷ [])) (one_part Unpins part (sym e)) tt
+]
 
 behind_refusal : (event : RunEvent) (now part : EventPart) (why : Refusal) → behind_piece now why ≡ Some part → StandsBefore (event ∷ []) part
 behind_refusal event ReadsPiece part refusal.ReadFault is = subst (StandsBefore (event ∷ [])) (one_part Unpins part is) tt
@@ -113,14 +107,6 @@ goes_on : {X : Type 0} → (b : Bool) → (if b then Some ReadsPiece else Some U
 goes_on true e = absurd (let k : Some ReadsPiece ≡ None = e in cc k)
 goes_on false e = absurd (let k : Some Unpins ≡ None = e in cc k)
 
-first_true : (a b : Bool) → a ≡ true → (a || b) ≡ true
-first_true true b e = refl
-first_true false b e = absurd (let k : false ≡ true = e in cc k)
-
-second_true : (a b : Bool) → b ≡ true → (a || b) ≡ true
-second_true true b e = refl
-second_true false b e = e
-
 -- an event of a fetch with which it is replied
 ends_so : (around after : Around) (run : Run) (lists : Lists) (name : List ℕ) (uid : Uid) (event : RunEvent) → IsEvent around after run lists (request.Fetch name uid) event → event.refused ≢ Some refusal.Stopped → event.reply ≢ None → HoldsNothing (own_events event.request run ++ event ∷ [])
 ends_so around after run lists name uid event e running ends = by_part event.part refl (stands_before around run name uid (own_events event.request run) event.part e.part_is)
@@ -156,7 +142,7 @@ ends_so around after run lists name uid event e running ends = by_part event.par
 
     by_unpinning : (o : Option Refusal) → event.refused ≡ o → event.part ≡ Unpins → HoldsNothing (own_events event.request run ++ event ∷ [])
     by_unpinning None none at =
-        inr (list_any-append is_unpinning (own_events event.request run) (event ∷ []) ∙ second_true (list_any is_unpinning (own_events event.request run)) (is_unpinning event || false) (first_true (is_unpinning event) false (unpinned_last event at none)))
+        inr (list_any-append is_unpinning (own_events event.request run) (event ∷ []) ∙ or_right (list_any is_unpinning (own_events event.request run)) (is_unpinning event || false) (or_left (is_unpinning event) false (unpinned_last event at none)))
     by_unpinning (Some why) is at =
         not_met around after run lists name uid event why e is (runs why is) (ap (λ (p : EventPart). has_memory p (request.Fetch name uid)) at) (ap (part_checks run event (request.Fetch name uid)) at)
         (λ read. absurd (let k : false ≡ true = subst (λ (r : Refusal). MayMeet Unpins (request.Fetch name uid) r) read (may why is at) in cc k))
@@ -166,7 +152,7 @@ ends_so around after run lists name uid event e running ends = by_part event.par
     by_part First at stands = by_first event.refused refl at stands
     by_part ReadsPiece at stands = by_reading event.refused refl at
     by_part Unpins at stands = by_unpinning event.refused refl at
-    by_part RemovesFile at stands = inr (list_any-append is_unpinning (own_events event.request run) (event ∷ []) ∙ first_true (list_any is_unpinning (own_events event.request run)) (is_unpinning event || false) stands)
+    by_part RemovesFile at stands = inr (list_any-append is_unpinning (own_events event.request run) (event ∷ []) ∙ or_left (list_any is_unpinning (own_events event.request run)) (is_unpinning event || false) stands)
     by_part part at stands = absurd stands
 
 -- ---- replies
@@ -241,8 +227,7 @@ let_at around after script start run journal place lane name uid next running as
 pub answered_holds_nothing : (around after : ℕ → Around) (script : Requests) (start : Lists) (run : Run) (journal : List JournalStep) (place lane : ℕ) (name : List ℕ) (uid : Uid) (given : Reply) → AreNextEvents around after script start run journal → NoneStopped run.events → slice_get script place ≡ Some (lane, request.Fetch name uid)
     → reply_of place run ≡ Some given → HoldsNothing (own_events place run)
 answered_holds_nothing around after script start run journal place lane name uid given next running asked answered =
-    by_case (subst (λ (events : List RunEvent). IsLet (record run { events = events }) place) (take_all (length run.events) run.events (omega arith)) (let_at around after script start run journal place lane name uid next running asked (length run.events) (omega arith)))
-  where
-    by_case : IsLet run place → HoldsNothing (own_events place run)
-    by_case (inl none) = absurd (let k : None ≡ Some given = sym none ∙ answered in cc k)
-    by_case (inr holds) = holds
+    elim (subst (λ (events : List RunEvent). IsLet (record run { events = events }) place) (take_all (length run.events) run.events (omega arith)) (let_at around after script start run journal place lane name uid next running asked (length run.events) (omega arith))) [
+      | inl none ↦ absurd (let k : None ≡ Some given = sym none ∙ answered in cc k)
+      | inr holds ↦ holds
+    ]

@@ -3,7 +3,9 @@ use Rattle.std.proofs.Common.{◌≡◌, ◌<◌, ◌≤◌, ◌+◌, ◌==◌, 
 use Rattle.std.specs.Prelude.{◌≢◌, ◌⊎◌, All, count_by, is_some, length, slice_get, sum_by}
 use Rattle.std.proofs.lemmas.Grind.{common_steps}
 use Rattle.std.proofs.lemmas.List.Elements.{All-head, All-tail}
-use Rattle.std.proofs.lemmas.List.Sums.{sum_by-cons}
+use Rattle.std.proofs.lemmas.List.Sums.{sum_by-cons, sum_by-set, get_or-le-sum_by}
+use Rattle.std.proofs.lemmas.Bool.{eq-eqb, ne_eqb}
+use Rattle.std.proofs.lemmas.Option.{slice_get_within, get_or_from_slice_get}
 use Rattle.mdbox_base.specs.declared.replies.Reply.{Reply}
 use Rattle.mdbox_base.specs.declared.requests.Request.{Request}
 use Rattle.journal.specs.Journal.{Requests}
@@ -28,31 +30,13 @@ pub times_cons : (place first : ℕ) (rest : List ℕ) → times_in place (first
 times_cons place first rest = sum_by-cons (λ (x : ℕ). cond (x == place) 1 0) first rest
 
 pub sum_set : {X : Type 0} → (f : X → ℕ) (xs : List X) (k : ℕ) (x y : X) → slice_get xs k ≡ Some x → sum_by f (slice_set xs k y) + f x ≡ sum_by f xs + f y
-sum_set f [] k x y there = absurd (let z : None ≡ Some x = there in cc z)
-sum_set f (a ∷ xs) zero x y there =
-    let same : f a ≡ f x = ap f (one_some a x there) in
-    let s = sum_by-cons f a xs in
-    let t = sum_by-cons f y xs in
-    omega (arith, same, s, t)
-sum_set f (a ∷ xs) (suc k) x y there =
-    let h = sum_set f xs k x y there in
-    let s = sum_by-cons f a xs in
-    let t = sum_by-cons f a (slice_set xs k y) in
-    omega (arith, h, s, t)
+sum_set f xs k x y there = let s = sum_by-set f xs k y x (slice_get_within xs k x there) in let at = ap f (get_or_from_slice_get xs k x x there) in omega (arith, s, at)
 
 one_of_sum : {X : Type 0} → (f : X → ℕ) (xs : List X) (k : ℕ) (x : X) → slice_get xs k ≡ Some x → f x ≤ sum_by f xs
-one_of_sum f [] k x there = absurd (let z : None ≡ Some x = there in cc z)
-one_of_sum f (a ∷ xs) zero x there = let same : f a ≡ f x = ap f (one_some a x there) in let s = sum_by-cons f a xs in omega (arith, same, s)
-one_of_sum f (a ∷ xs) (suc k) x there = let h = one_of_sum f xs k x there in let s = sum_by-cons f a xs in omega (arith, h, s)
+one_of_sum f xs k x there = let s = get_or-le-sum_by f xs k x (slice_get_within xs k x there) in let at = ap f (get_or_from_slice_get xs k x x there) in omega (arith, s, at)
 
 pub equal_test : (a b : ℕ) → (a ≡ b → one_if (a == b) ≡ 1) × (a ≢ b → one_if (a == b) ≡ 0)
-equal_test a b = (λ e. ap one_if (same e), λ n. ap one_if (differ n))
-  where
-    same : a ≡ b → (a == b) ≡ true
-    same e = grind (arith, common_steps, e)
-
-    differ : a ≢ b → (a == b) ≡ false
-    differ n = grind (arith, common_steps, n)
+equal_test a b = (λ e. ap one_if (eq-eqb a b e), λ n. ap one_if (ne_eqb a b n))
 
 -- ---- a lane
 

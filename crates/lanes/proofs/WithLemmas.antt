@@ -1,6 +1,6 @@
 -- Events and requests that are asked, one after another: what they keep, and whose entries they add.
 use Rattle.std.proofs.Common.{◌≡◌, ◌<◌, ◌+◌, ◌-◌, ◌*◌, ℕ, List, [], ◌∷◌, ◌++◌, slice_set, Option, Some, None, refl, sym, ◌∙◌, ap, subst, arith, inl, inr}
-use Rattle.std.specs.Prelude.{◌≢◌, ◌⊎◌, All, length, slice_get}
+use Rattle.std.specs.Prelude.{All, length, slice_get}
 use Rattle.std.proofs.lemmas.List.{append-nil, append_assoc, length-set}
 use Rattle.std.proofs.lemmas.List.Elements.{All-append, All-cons, All-nil}
 use Rattle.disk_model.specs.Disk.{Faults, History}
@@ -60,24 +60,20 @@ module _ {D : Type 0} (history : D → Option History) (faults : D → Faults) w
 
 left_behind : (last : ℕ) (ended : Option Reply) (place : ℕ) (replies : List (Option Reply)) → slice_get replies place ≡ Some None → IsOnlyLeft last replies → IsOnlyLeft last (replies_behind ended place replies)
 left_behind last None place replies there only = only
-left_behind last (Some given) place replies there only = λ i is. by_case i is (nat_cases place i)
-  where
-    by_case : (i : ℕ) → slice_get (slice_set replies place (Some given)) i ≡ Some None → (place ≡ i) ⊎ (place ≢ i) → i ≡ last
-    by_case i is (inl same) = absurd (let z : Some given ≡ None = one_some (Some given) None (sym (get_set_same replies place (Some given) None there) ∙ (ap (slice_get (slice_set replies place (Some given))) same ∙ is)) in cc z)
-    by_case i is (inr apart) = only i (sym (get_set_other replies place i (Some given) apart) ∙ is)
+left_behind last (Some given) place replies there only = λ i is. elim (nat_cases place i) [
+  | inl same ↦ absurd (let z : Some given ≡ None = one_some (Some given) None (sym (get_set_same replies place (Some given) None there) ∙ (ap (slice_get (slice_set replies place (Some given))) same ∙ is)) in cc z)
+  | inr apart ↦ only i (sym (get_set_other replies place i (Some given) apart) ∙ is)
+]
 
 made_own : (how : Did) (lane place calls last : ℕ) → place ≡ last → All (λ entry. entry.request ≡ last) (entries_made how lane place calls)
 made_own (did.Step half) lane place calls last is = All-cons (λ (entry : JournalEntry). entry.request ≡ last) (record { lane = lane; request = place; half = half; calls = calls }) [] is (All-nil (λ (entry : JournalEntry). entry.request ≡ last))
-made_own did.Quiet lane place calls last is = All-nil (λ (entry : JournalEntry). entry.request ≡ last)
-made_own did.Failed lane place calls last is = All-nil (λ (entry : JournalEntry). entry.request ≡ last)
-made_own (did.Broken half) lane place calls last is = All-nil (λ (entry : JournalEntry). entry.request ≡ last)
+made_own how lane place calls last is = All-nil (λ (entry : JournalEntry). entry.request ≡ last)
 
 added_own : (Room : Type 0) (how : Did) (lane place calls last : ℕ) (entries now : List JournalEntry) → place ≡ last → AreAdded Room (entries_made how lane place calls) entries now → (more : List JournalEntry) × (now ≡ entries ++ more) × All (λ entry. entry.request ≡ last) more
-added_own Room how lane place calls last entries now is added = by_case added.some
-  where
-    by_case : (now ≡ entries) ⊎ (now ≡ entries ++ entries_made how lane place calls) → (more : List JournalEntry) × (now ≡ entries ++ more) × All (λ entry. entry.request ≡ last) more
-    by_case (inl same) = ([], same ∙ sym (append-nil entries), All-nil (λ (entry : JournalEntry). entry.request ≡ last))
-    by_case (inr more) = (entries_made how lane place calls, more, made_own how lane place calls last is)
+added_own Room how lane place calls last entries now is added = elim added.some [
+  | inl same ↦ ([], same ∙ sym (append-nil entries), All-nil (λ (entry : JournalEntry). entry.request ≡ last))
+  | inr more ↦ (entries_made how lane place calls, more, made_own how lane place calls last is)
+]
 
 module _ {D : Type 0} (history : D → Option History) (faults : D → Faults) where
   pub own_entries : (lanes : List ℕ) (last : ℕ) (old new : WorldValue D) → GoesWith history faults (events_of lanes) old new → IsOnlyLeft last old.replies → (more : List JournalEntry) × (new.journal ≡ old.journal ++ more) × All (λ entry. entry.request ≡ last) more × IsOnlyLeft last new.replies

@@ -2,8 +2,9 @@
 use Rattle.std.proofs.Common.{◌≡◌, ◌<◌, ◌≤◌, ◌+◌, ◌-◌, ◌*◌, ◌^◌, ◌==◌, ◌&&◌, ℕ, zero, suc, Bool, true, false, cond, List, [], ◌∷◌, ◌++◌, map, slice_set, Option, Some, None, refl, sym, ◌∙◌, ap, subst, arith, inl, inr}
 use Rattle.std.specs.Prelude.{◌≢◌, ◌⊎◌, All, is_some, length, min, slice_get, slice_index_or}
 use Rattle.std.proofs.lemmas.Grind.{common_steps}
-use Rattle.std.proofs.lemmas.List.{append-nil, length-append, length-set}
-use Rattle.std.proofs.lemmas.List.Elements.{All-head, All-tail, All-nil, All-cons}
+use Rattle.std.proofs.lemmas.List.{append-nil, length-append}
+use Rattle.std.proofs.lemmas.List.Elements.{All-head, All-weaker}
+use Rattle.std.proofs.lemmas.Bool.{eq-eqb, ne_eqb, and_right}
 use Rattle.disk_model.specs.Disk.{Faults, History, IsMoment, IsTold, told_calls}
 use Rattle.mdbox_base.specs.declared.progress.Did.{Did}
 use Rattle.mdbox_base.specs.declared.progress.Did.TheVariants as did
@@ -15,27 +16,21 @@ use Rattle.model_kept.specs.Kept.{MailIsKept}
 use Rattle.model_lists.specs.Lists.{Lists}
 use Rattle.model_meaning.specs.MapMeaning.{MapMeaning}
 use Rattle.list_machine.specs.Run.{Run, RunEvent, and_then}
-use Rattle.journal.specs.GoesOn.{broken_by}
 use Rattle.journal.specs.Journal.{Broken, JournalStep, Requests, moment_of, no_broken}
 use Rattle.journal.proofs.JournalLemmas.{steps_within}
 use Rattle.serving.specs.Lanes.{replies_behind}
-use Rattle.serving.specs.Serving.{AreIdle}
 use Rattle.serving.specs.Turns.{IsTraceOf, LaneTurn}
 use Rattle.serving.proofs.LaneLemmas.{get_set_other, get_set_same, nat_cases, one_some}
-use Rattle.serving.proofs.ServingLemmas.{all_at}
-use Rattle.store_core.specs.Value.{StoreValue}
 use Rattle.task_claims.specs.Claims.{one_if}
 use Rattle.task_steps.specs.Serves.{BreaksBy}
 use Rattle.task_steps.specs.Step.{Seen, ended_by}
 use Rattle.mail_fetch.specs.Task.{seen_in}
-use Rattle.lane_tasks.specs.Tasks.{BeginsTask}
 use Rattle.lanes.specs.Going.{AddsEvent, IsGoing, IsStepOf, halves_told}
-use Rattle.lanes.specs.Rows.{LaneRow, RowGoesOn, after_event, lane_value, lanes_of, queue_in}
+use Rattle.lanes.specs.Rows.{LaneRow, lanes_of}
 use Rattle.lanes.specs.Worlds.{AreAdded, AreCounted, AreEntriesAt, IsEntryAt, IsWorldOf, Works, WorldValue, entries_broken, entries_made, replied_behind, replied_in}
 use Rattle.lanes.specs.declared.lane.LaneEvent.{LaneEvent}
-use Rattle.lanes.specs.declared.lane.Queued.{Queued}
 use Rattle.lanes.proofs.EntryLemmas.{entries_as_many, entries_join, entries_stay, journal_short, moment_last, moment_stays}
-use Rattle.lanes.proofs.GoingLemmas.{going_on, in_turn, value_at}
+use Rattle.lanes.proofs.GoingLemmas.{going_on, in_turn}
 
 -- ---- what the disk tells
 
@@ -82,18 +77,13 @@ one_made history began later lane place half run added (s ∷ more) small is at 
 made_entries : (history : Option History) (began later lane place : ℕ) (how : Did) (run : Run) (added : RunEvent) (more : List JournalStep) → began ≤ 2 ^ 64 - 1 → IsMoment history later → added.moment ≡ told_calls history → map (λ (s : JournalStep). s.half) more ≡ halves_told how → All (IsStepOf lane place run) more
     → AreEntriesAt history began (moment_of (and_then run added)) more (entries_made how lane place (later - began))
 made_entries history began later lane place (did.Step half) run added more small is at halves are = one_made history began later lane place half run added more small is at halves are
-made_entries history began later lane place did.Quiet run added more small is at halves are = none_made history began (moment_of (and_then run added)) more halves
-made_entries history began later lane place did.Failed run added more small is at halves are = none_made history began (moment_of (and_then run added)) more halves
-made_entries history began later lane place (did.Broken half) run added more small is at halves are = none_made history began (moment_of (and_then run added)) more halves
+made_entries history began later lane place how run added more small is at halves are = none_made history began (moment_of (and_then run added)) more halves
 
 all_stay : (run : Run) (added : RunEvent) (steps : List JournalStep) → All (λ s. s.event < length run.events) steps → All (λ s. moment_of run s ≡ moment_of (and_then run added) s) steps
-all_stay run added [] within = All-nil (λ (s : JournalStep). moment_of run s ≡ moment_of (and_then run added) s)
-all_stay run added (s ∷ steps) within =
-    All-cons (λ (x : JournalStep). moment_of run x ≡ moment_of (and_then run added) x) s steps (moment_stays run added s (All-head (λ (x : JournalStep). x.event < length run.events) s steps within)) (all_stay run added steps (All-tail (λ (x : JournalStep). x.event < length run.events) s steps within))
+all_stay run added = All-weaker (λ (x : JournalStep). x.event < length run.events) (λ (x : JournalStep). moment_of run x ≡ moment_of (and_then run added) x) (moment_stays run added)
 
 all_same : (moment : JournalStep → ℕ) (steps : List JournalStep) → All (λ s. moment s ≡ moment s) steps
-all_same moment [] = All-nil (λ (s : JournalStep). moment s ≡ moment s)
-all_same moment (s ∷ steps) = All-cons (λ (x : JournalStep). moment x ≡ moment x) s steps refl (all_same moment steps)
+all_same moment steps k d less = refl
 
 -- the journal with the entry of an event
 journal_on : (before after : Option History) (began later lane place : ℕ) (how : Did) (run : Run) (added : RunEvent) (steps more : List JournalStep) (old new : List JournalEntry) (room : ℕ) → began ≤ 2 ^ 64 - 1 → IsMoment after later → added.moment ≡ told_calls after → map (λ (s : JournalStep). s.half) more ≡ halves_told how
@@ -142,21 +132,15 @@ broken_on before after began earlier lane place (did.Broken half) run added fail
 
     new_is : new ≡ record { lane = lane; request = place; half = half; calls = earlier - began } ∷ []
     new_is = let e = empty old none in more (let l : length old ≡ 0 = ap length e in omega (arith, l)) ∙ ap (λ (es : List JournalEntry). es ++ record { lane = lane; request = place; half = half; calls = earlier - began } ∷ []) e
-broken_on before after began earlier lane place did.Quiet run added failed broke old new small is on at told breaks once entries same more = still before after began failed broke old new told breaks entries (same refl)
-broken_on before after began earlier lane place (did.Step half) run added failed broke old new small is on at told breaks once entries same more = still before after began failed broke old new told breaks entries (same refl)
-broken_on before after began earlier lane place did.Failed run added failed broke old new small is on at told breaks once entries same more = still before after began failed broke old new told breaks entries (same refl)
+broken_on before after began earlier lane place how run added failed broke old new small is on at told breaks once entries same more = still before after began failed broke old new told breaks entries (same refl)
 
 -- ---- counts
 
 abbrev pub one_of : ℕ → ℕ × Request → Option Reply → ℕ
 one_of lane asked given = cond (asked.0 == lane && is_some given) 1 0
 
-one_none : (lane : ℕ) (asked : ℕ × Request) → one_of lane asked None ≡ 0
-one_none lane asked = by_test (asked.0 == lane)
-  where
-    by_test : (b : Bool) → one_if (b && false) ≡ 0
-    by_test true = refl
-    by_test false = refl
+pub one_none : (lane : ℕ) (asked : ℕ × Request) → one_of lane asked None ≡ 0
+one_none lane asked = ap one_if (and_right (asked.0 == lane) false refl)
 
 one_some_of : (lane : ℕ) (asked : ℕ × Request) (given : Reply) → one_of lane asked (Some given) ≡ one_if (asked.0 == lane)
 one_some_of lane asked given = by_test (asked.0 == lane)
@@ -190,9 +174,6 @@ count_most lane [] replies = omega arith
 count_most lane (q ∷ script) [] = omega arith
 count_most lane (q ∷ script) (r ∷ replies) = let h = count_most lane script replies in let o = one_most lane q r in omega (arith, h, o)
 
-same_or_not : (a b : ℕ) → (a ≡ b → (a == b) ≡ true) × (a ≢ b → (a == b) ≡ false)
-same_or_not a b = (λ e. grind (arith, common_steps, e), λ n. grind (arith, common_steps, n))
-
 index_of : (counts : List ℕ) (k count : ℕ) → slice_get counts k ≡ Some count → slice_index_or counts k 0 ≡ count
 index_of [] k count there = absurd (let z : None ≡ Some count = there in cc z)
 index_of (a ∷ counts) zero count there = one_some a count there
@@ -217,7 +198,7 @@ counted_on script replies counts k place request (Some given) asked none short a
         let now : min (slice_index_or counts k 0 + 1) (2 ^ 64 - 1) ≡ count = one_some _ count (sym (get_set_same counts k (min (slice_index_or counts k 0 + 1) (2 ^ 64 - 1)) was.0 was.1) ∙ (ap (λ (n : ℕ). slice_get (slice_set counts k (min (slice_index_or counts k 0 + 1) (2 ^ 64 - 1))) n) e ∙ there)) in
         let old : slice_index_or counts k 0 ≡ replied_in (k + 1) script replies = index_of counts k was.0 was.1 ∙ are k was.0 was.1 in
         let g = grown (k + 1) in
-        let t : one_if ((k + 1) == (k + 1)) ≡ 1 = ap one_if ((same_or_not (k + 1) (k + 1)).0 refl) in
+        let t : one_if ((k + 1) == (k + 1)) ≡ 1 = ap one_if (eq-eqb (k + 1) (k + 1) refl) in
         let most = count_most (k + 1) script replies in
         let all : count ≡ replied_in (k + 1) script (slice_set replies place (Some given)) = settle (slice_index_or counts k 0) (replied_in (k + 1) script replies) (replied_in (k + 1) script (slice_set replies place (Some given))) count now old (g ∙ ap (λ (n : ℕ). n + replied_in (k + 1) script replies) t) (let m = most in let s = short in omega (arith, m, s)) in
         all ∙ ap (λ (n : ℕ). replied_in (n + 1) script (slice_set replies place (Some given))) e
@@ -227,7 +208,7 @@ counted_on script replies counts k place request (Some given) asked none short a
     by_case (inr apart) =
         let old = are j count (sym (get_set_other counts k j (min (slice_index_or counts k 0 + 1) (2 ^ 64 - 1)) apart) ∙ there) in
         let g = grown (j + 1) in
-        let t : one_if ((k + 1) == (j + 1)) ≡ 0 = ap one_if ((same_or_not (k + 1) (j + 1)).1 (λ e. apart (omega (arith, e)))) in
+        let t : one_if ((k + 1) == (j + 1)) ≡ 0 = ap one_if (ne_eqb (k + 1) (j + 1) (λ e. apart (omega (arith, e)))) in
         omega (arith, old, g, t)
 
 -- ---- an event
@@ -305,18 +286,16 @@ works_by {D} k old new before after first second w clock few start script run st
 
 -- ---- what a world's own calls make of it
 
+-- the number of a lane, from its place
+pub lane_back : (n : ℕ) → 1 ≤ n → n ≡ n - 1 + 1
+lane_back n some = omega (arith, some)
+
 -- the entries of an event are those that the lane's number and the moment give
 pub entries_at : (how : Did) (lane place calls moment began : ℕ) → 1 ≤ lane → calls ≡ moment - began → entries_made how lane place calls ≡ entries_made how (lane - 1 + 1) place (moment - began)
-entries_at how lane place calls moment began some is = ap (λ (n : ℕ). entries_made how n place calls) (one_less lane some) ∙ ap (λ (n : ℕ). entries_made how (lane - 1 + 1) place n) is
-  where
-    one_less : (n : ℕ) → 1 ≤ n → n ≡ n - 1 + 1
-    one_less n some = omega (arith, some)
+entries_at how lane place calls moment began some is = ap (λ (n : ℕ). entries_made how n place calls) (lane_back lane some) ∙ ap (λ (n : ℕ). entries_made how (lane - 1 + 1) place n) is
 
 pub broken_at : (how : Did) (lane place calls moment began : ℕ) → 1 ≤ lane → calls ≡ moment - began → entries_broken how lane place calls ≡ entries_broken how (lane - 1 + 1) place (moment - began)
-broken_at how lane place calls moment began some is = ap (λ (n : ℕ). entries_broken how n place calls) (one_less lane some) ∙ ap (λ (n : ℕ). entries_broken how (lane - 1 + 1) place n) is
-  where
-    one_less : (n : ℕ) → 1 ≤ n → n ≡ n - 1 + 1
-    one_less n some = omega (arith, some)
+broken_at how lane place calls moment began some is = ap (λ (n : ℕ). entries_broken how n place calls) (lane_back lane some) ∙ ap (λ (n : ℕ). entries_broken how (lane - 1 + 1) place n) is
 
 -- the same entries, with room for them where there is room for as many
 pub added_as : (room less : Type 0) (made added entries now : List JournalEntry) → made ≡ added → (less → room) → AreAdded room made entries now → AreAdded less added entries now

@@ -99,7 +99,7 @@ found_worded u words uid (r ∷ rs) row there = by_words (u.0 == r.uid) there (�
     by_words false k rest = by_uid (r.uid == uid) r (same_row r row) k rest
 
 pub wording_keeps : (u : Uid) (words : List (List ℕ)) (m : BoxMeaning) → KeepsRows (entry.K u words) m
-wording_keeps u words m uid row below there = found_worded u words uid m.rows row (sym (ap (find (λ r. r.uid == uid)) (rows_by_wordsged u words m.rows)) ∙ there)
+wording_keeps u words m uid row below there = found_worded u words uid m.rows row (sym (ap (find (λ r. r.uid == uid)) (rows_by_worded u words m.rows)) ∙ there)
 
 -- ---- a message is added
 

@@ -1,9 +1,7 @@
 -- A setting of keywords as an event, which appends one entry.
-use Rattle.mail_ops.proofs.Common.{All-nil, ◌≡◌, ◌⊎◌, ◌≤◌, ◌<◌, ℕ, true, false, List, [], Option, Some, None, refl, sym, ap, subst, arith, inl, option_copied, option_map, option_or, find, is_some, bytes_eq, History, told_calls, Grows, Uid, Refusal, Reply, Mailbox, Lists, AreWellFormed, LogRow}
-use Rattle.mail_ops.proofs.Common.{BoxMeaning, row_at, MapBox, MapMeaning, no_numbers, lists_by, meanings_by, ShowLists, meaning_named, IsSettledFor, Leaves, First, BoxAppend, RunEvent, event_of, Run, own_events, PartAnswers, mailbox_named, refused_where, HasMailbox, answers_well, Around, Brings}
+use Rattle.mail_ops.proofs.Common.{All-nil, ◌≡◌, ◌⊎◌, ◌≤◌, ℕ, true, false, List, [], Option, Some, None, refl, sym, subst, arith, inl, option_map, find, bytes_eq, History, told_calls, Grows, Uid, Refusal, Reply, Lists, AreWellFormed, LogRow}
+use Rattle.mail_ops.proofs.Common.{BoxMeaning, row_at, MapBox, MapMeaning, no_numbers, lists_by, meanings_by, ShowLists, meaning_named, IsSettledFor, Leaves, First, BoxAppend, RunEvent, event_of, Run, own_events, PartAnswers, answers_well, Around, Brings}
 use Rattle.mail_ops.proofs.Common.{NoFault, MailIsKept, Seen, ShowsSeen, HasComeTo, HasNotBegun, TellsSame, did_fall, did_own, ends_well, own_event, some_reply, stays_left, comes_along, first_reply, IsPlain, refusal_last}
-use Rattle.std.specs.Prelude.{is_none}
-use denote.Ref.{Bor}
 use Rattle.mdbox_base.specs.declared.entries.BoxEntry.TheVariants as entry
 use Rattle.mdbox_base.specs.declared.progress.Did.TheVariants as did
 use Rattle.mdbox_base.specs.declared.replies.Refusal.TheVariants as refusal
@@ -12,7 +10,7 @@ use Rattle.mdbox_base.specs.declared.requests.Request.TheVariants as request
 use Rattle.mdbox_base.specs.declared.script.Half.TheVariants as half
 use Rattle.mdbox_base.specs.Keywords.{AreWords}
 use Rattle.mdbox_base.specs.Streams.{Rose}
-use Rattle.list_machine.specs.Machine.{set_words, refusal_at}
+use Rattle.list_machine.specs.Machine.{set_words}
 use Rattle.journal.specs.Events.{adds_to}
 use Rattle.store_core.specs.Value.{StoreValue}
 use Rattle.mail_ops.specs.Wording.{WordsAnswers}

@@ -1,5 +1,5 @@
 -- Lists that are shown, with keywords set, and such a request by the list machine.
-use Rattle.mail_ops.proofs.Common.{◌≡◌, ◌==◌, ℕ, Bool, true, false, cond, List, [], ◌∷◌, map, Option, Some, None, refl, sym, ◌∙◌, ap, subst, arith, common_steps, nat_tests, if◌then◌else◌, option_map, bytes_eq, Uid, ListRow, ListedMessage, Mailbox, Lists, AreWellFormed, listing_row, First, RunEvent}
+use Rattle.mail_ops.proofs.Common.{◌≡◌, ℕ, List, [], Some, None, refl, sym, ◌∙◌, ap, subst, option_map, bytes_eq, Uid, Lists, AreWellFormed, listing_row, First, RunEvent}
 use Rattle.mail_ops.proofs.Common.{Run, PartAnswers, mailbox_named, message_in, LogRow, BoxMeaning, row_at, MapBox, listed_row, ShowLists, meaning_named, lists_by}
 use Rattle.std.proofs.Common.{find}
 use Rattle.mdbox_base.specs.declared.entries.BoxEntry.TheVariants as entry

@@ -3,4 +3,4 @@ pub mod DigitLemmas
 pub mod KeywordLemmas
 pub mod LowerHexLemmas
 pub mod StreamLemmas
-mod WordPlaceLemmas
+pub mod WordPlaceLemmas

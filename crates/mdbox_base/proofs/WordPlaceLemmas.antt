@@ -30,7 +30,7 @@ IsBefore a b = slice_cmp nat_cmp a b ≡ Less
 abbrev pub Rise : List (List ℕ) → Type 0
 Rise words = AllPairs IsBefore words
 
-same_octets : (a b : List ℕ) → by_octets a b ≡ Equal → a ≡ b
+pub same_octets : (a b : List ℕ) → by_octets a b ≡ Equal → a ≡ b
 same_octets a b e = (bytes_eq-Decides a b).0 (sym (is_eq-slice_cmp a b) ∙ ap is_eq e)
 
 equal_octets : (a b : List ℕ) → a ≡ b → by_octets a b ≡ Equal
@@ -65,13 +65,13 @@ searched_words words text rise (Err at) within parted =
 
 -- ---- members
 
-any_of : (text : List ℕ) (words : List (List ℕ)) → list_any (bytes_eq text) words ≡ true → Contains words text
+pub any_of : (text : List ℕ) (words : List (List ℕ)) → list_any (bytes_eq text) words ≡ true → Contains words text
 any_of text words h =
     let a = Any-from_list_any (bytes_eq text) words h in
     let is : text ≡ a.1 = (bytes_eq-Decides text a.1).0 a.4 in
     subst (Contains words) (sym is) (a.0, a.2, a.3)
 
-of_any : (text : List ℕ) (words : List (List ℕ)) → Contains words text → list_any (bytes_eq text) words ≡ true
+pub of_any : (text : List ℕ) (words : List (List ℕ)) → Contains words text → list_any (bytes_eq text) words ≡ true
 of_any text words c = list_any_at (bytes_eq text) words c.0 text c.1 ((bytes_eq-Decides text (get_or words c.0 text)).1 (sym c.2))
 
 both_same : (a b : Bool) → (a ≡ true → b ≡ true) → (b ≡ true → a ≡ true) → a ≡ b
@@ -91,7 +91,7 @@ not_there words text at p c =
       | inr behind ↦ (let e : Greater ≡ Equal = sym (p.behind c.0 text behind c.1) ∙ same in cc e)
     ]
 
-is_false : (b : Bool) → (b ≡ true → ⊥) → b ≡ false
+pub is_false : (b : Bool) → (b ≡ true → ⊥) → b ≡ false
 is_false true h = absurd (h refl)
 is_false false h = refl
 
@@ -126,13 +126,13 @@ rise_with words text at rise p =
     (all-take (λ word. IsBefore word text) at words p.within p.before)
     (all-drop (IsBefore text) at words (λ k d le lt. turned (get_or words k d) text Greater (p.behind k d le lt)))
 
-first_or : {X : Type 0} → (y : X) (ys : List X) (x : X) → Contains (y ∷ ys) x → (x ≡ y) ⊎ Contains ys x
+pub first_or : {X : Type 0} → (y : X) (ys : List X) (x : X) → Contains (y ∷ ys) x → (x ≡ y) ⊎ Contains ys x
 first_or y ys x c = elim (Contains-append_cases (y ∷ []) ys x c) [
   | inl h ↦ inl (sym (All-contains (λ z. y ≡ z) (y ∷ []) x (All-cons (λ z. y ≡ z) y [] refl (All-nil (λ z. y ≡ z))) h))
   | inr h ↦ inr h
 ]
 
-or_first : {X : Type 0} → (y : X) (ys : List X) (x : X) → (x ≡ y) ⊎ Contains ys x → Contains (y ∷ ys) x
+pub or_first : {X : Type 0} → (y : X) (ys : List X) (x : X) → (x ≡ y) ⊎ Contains ys x → Contains (y ∷ ys) x
 or_first y ys x (inl e) = subst (Contains (y ∷ ys)) (sym e) (0, omega arith, refl)
 or_first y ys x (inr c) = (suc c.0, (let lt = c.1 in omega (arith, lt)), c.2)
 
@@ -179,7 +179,7 @@ count_step false false true n m same h = ap (λ (k : ℕ). k + 1) h
 count_step false false false n m same h = ap (λ (k : ℕ). k + 1) h
 
 -- one text more behind them
-count_more : (texts : List (List ℕ)) (text : List ℕ) → count_different (texts ++ text ∷ []) ≡ (if list_any (bytes_eq text) texts then count_different texts else count_different texts + 1)
+pub count_more : (texts : List (List ℕ)) (text : List ℕ) → count_different (texts ++ text ∷ []) ≡ (if list_any (bytes_eq text) texts then count_different texts else count_different texts + 1)
 count_more [] text = refl
 count_more (t ∷ ts) text =
     ap (λ (b : Bool). if b then count_different (ts ++ text ∷ []) else count_different (ts ++ text ∷ []) + 1) (list_any-append (bytes_eq t) ts (text ∷ []))
@@ -192,7 +192,7 @@ no_less true n m h = let k : m ≡ n = h in omega (arith, k)
 no_less false n m h = let k : m ≡ n + 1 = h in omega (arith, k)
 
 -- more texts are no fewer
-count_grows : (texts rest : List (List ℕ)) → count_different texts ≤ count_different (texts ++ rest)
+pub count_grows : (texts rest : List (List ℕ)) → count_different texts ≤ count_different (texts ++ rest)
 count_grows texts [] = let e = ap count_different (append-nil texts) in omega (arith, e)
 count_grows texts (y ∷ ys) =
     let one : count_different texts ≤ count_different (texts ++ y ∷ []) = no_less (list_any (bytes_eq y) texts) (count_different texts) (count_different (texts ++ y ∷ [])) (count_more texts y) in

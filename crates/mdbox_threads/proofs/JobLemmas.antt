@@ -32,19 +32,7 @@ given_back n new rest long = take_at new rest n long
 
 pub no_message : (asked : Request) → ((name : List ℕ) (time : ℕ) (message : List ℕ) → asked ≡ request.Deliver name time message → ⊥) → delivers asked ≡ false
 no_message (request.Deliver name time message) unlike = absurd (unlike name time message refl)
-no_message (request.List name) unlike = refl
-no_message (request.Fetch name uid) unlike = refl
-no_message (request.Flag name uid flags) unlike = refl
-no_message (request.Keywords name uid words) unlike = refl
-no_message (request.Copy name uid target) unlike = refl
-no_message (request.Move name uid target) unlike = refl
-no_message (request.Expunge name uid) unlike = refl
-no_message (request.Make name) unlike = refl
-no_message (request.Delete name) unlike = refl
-no_message (request.Rename name target) unlike = refl
-no_message request.Counts unlike = refl
-no_message request.Purge unlike = refl
-no_message request.Resync unlike = refl
+no_message asked unlike = refl
 
 one_more : (b : Bool) (k : ℕ) (new old tail : List ℕ) → new ≡ old ++ tail → (if b then k ∷ new else new) ≡ (if b then k ∷ old else old) ++ tail
 one_more true k new old tail e = ap (λ (ns : List ℕ). k ∷ ns) e

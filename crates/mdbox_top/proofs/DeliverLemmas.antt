@@ -73,11 +73,10 @@ pub deliver_input : {D : Type 0} → (name : List ℕ) (left : Option (List ℕ)
 deliver_input name left told h k old new f g why (inl u) = inl (tt, u.1, u.2, u.3)
 deliver_input name left told h k old new f g why (inr d) = absurd (request_input (IsDeliverReply name d.1 d.0) (request.Deliver name d.1 d.0) h k old new f g why d.4.ends)
 
-not_damage : IsOneOf (5 ∷ 6 ∷ 8 ∷ []) 3 → ⊥
+not_damage : IsOneOf (6 ∷ 8 ∷ []) 3 → ⊥
 not_damage (inl e) = omega (arith, e)
 not_damage (inr (inl e)) = omega (arith, e)
-not_damage (inr (inr (inl e))) = omega (arith, e)
-not_damage (inr (inr (inr e))) = e
+not_damage (inr (inr e)) = e
 
 pub deliver_damage : {D : Type 0} → (name : List ℕ) (left : Option (List ℕ)) (told : Option ℕ) (h k : Option (List ℕ)) (old new : Option History) (f g : Faults) (s : StoreRefusal) → DeliverOutcome D name left told h k old new f g (outcome.StoreRefused s) → DeliverOutcome D name left told h k old new f g outcome.NoMemory
 deliver_damage name left told h k old new f g s (inl u) = absurd u.0

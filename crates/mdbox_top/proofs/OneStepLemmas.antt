@@ -338,7 +338,7 @@ expunge_tells name uid given old new began now w =
 
 -- ---- the keywords of a message
 
-abbrev expunging : List ℕ → Uid → Request
+abbrev wording : List ℕ → Uid → List (List ℕ) → Request
 wording name uid words = request.Keywords name uid words
 
 along_words : (name : List ℕ) (uid : Uid) (words : List (List ℕ)) (answer : Reply) (lists : Lists) → (lists_told (wording name uid words) answer lists ≡ lists) ⊎ (lists_told (wording name uid words) answer lists ≡ lists_with_words name uid words lists)

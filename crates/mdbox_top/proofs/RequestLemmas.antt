@@ -1,6 +1,6 @@
 -- How a request alone ends, whatever its reply tells.
 use Rattle.std.specs.Prelude.{◌≡◌, ◌⊎◌, ℕ, List, [], ◌∷◌, Option, Some, None}
-use Rattle.std.proofs.Common.{refl, sym, ◌∙◌, ap, subst, inl, inr, append-nil, arith}
+use Rattle.std.proofs.Common.{refl, sym, ◌∙◌, ap, subst, inl, inr, arith}
 use Rattle.disk_model.specs.Disk.{History, Faults, EachImage, IsIdle}
 use Rattle.disk_model.proofs.IdleLemmas.{idle-begins}
 use Rattle.disk_model.proofs.MomentLemmas.{since-begins, if_told-all}
@@ -21,6 +21,7 @@ use Rattle.store_open.proofs.SweptStoreLemmas.{carries-idle}
 use Rattle.store_open.specs.declared.error.OpenError.{OpenError}
 use Rattle.store_open.specs.declared.error.OpenError.TheVariants as error
 use Rattle.request_text.specs.Outcomes.{status_of, reply_outcome}
+use Rattle.request_text.specs.ReplyText.{IsLong}
 use Rattle.request_text.specs.declared.outcome.InputRefusal.{InputRefusal}
 use Rattle.request_text.specs.declared.outcome.StoreRefusal.{StoreRefusal}
 use Rattle.request_text.specs.declared.outcome.Outcome.{Outcome}
@@ -36,7 +37,7 @@ use Rattle.model_meaning.specs.MapMeaning.{map_meaning}
 
 -- a whole reply
 pub whole : (given : Reply) (text : List ℕ) (h k : Option (List ℕ)) → Appended h text k → ShowsReply text given h k (reply_outcome given)
-whole (reply.Refused refusal.NoMemory) text h k a = (text, [], sym (append-nil text), a)
+whole (reply.Refused refusal.NoMemory) text h k a = inr (refl, a)
 whole (reply.Refused other) text h k a = (refl, a)
 whole other text h k a = (refl, a)
 
@@ -225,15 +226,22 @@ pub failed_outcome : (given : Reply) → (given ≡ reply.Refused refusal.ReadFa
 failed_outcome given (inl e) = ap reply_outcome e
 failed_outcome given (inr e) = ap reply_outcome e
 
+-- a listing and a message are no `NO`
+long_is_done : (given : Reply) → IsLong given → reply_outcome given ≡ outcome.Done
+long_is_done (reply.Listed rows) l = refl
+long_is_done (reply.Fetched octets) l = refl
+long_is_done other l = absurd l
+
 -- it ends so, or with a printing that failed
-pub failed_status : (text : List ℕ) (given : Reply) (h k : Option (List ℕ)) (o : Outcome) → ShowsReply text given h k o → reply_outcome given ≡ outcome.DiskFault → IsOneOf (5 ∷ 6 ∷ 8 ∷ []) (status_of o)
-failed_status text given h k outcome.WriteFault s failed = inr (inr (inl refl))
-failed_status text given h k outcome.NoMemory s failed = inl refl
-failed_status text given h k outcome.Done s failed = inr (inl (ap status_of (s.0 ∙ failed)))
-failed_status text given h k outcome.No s failed = inr (inl (ap status_of (s.0 ∙ failed)))
-failed_status text given h k outcome.DiskFault s failed = inr (inl refl)
-failed_status text given h k outcome.ReadFault s failed = inr (inl (ap status_of (s.0 ∙ failed)))
-failed_status text given h k outcome.Usage s failed = inr (inl (ap status_of (s.0 ∙ failed)))
-failed_status text given h k outcome.SessionFull s failed = inr (inl (ap status_of (s.0 ∙ failed)))
-failed_status text given h k (outcome.StoreRefused why) s failed = inr (inl (ap status_of (s.0 ∙ failed)))
-failed_status text given h k (outcome.InputRefused why) s failed = inr (inl (ap status_of (s.0 ∙ failed)))
+pub failed_status : (text : List ℕ) (given : Reply) (h k : Option (List ℕ)) (o : Outcome) → ShowsReply text given h k o → reply_outcome given ≡ outcome.DiskFault → IsOneOf (6 ∷ 8 ∷ []) (status_of o)
+failed_status text given h k outcome.WriteFault s failed = inr (inl refl)
+failed_status text given h k outcome.NoMemory (inl s) failed = absurd (let k : 0 ≡ 6 = ap status_of (sym (long_is_done given s.0) ∙ failed) in omega (arith, k))
+failed_status text given h k outcome.NoMemory (inr s) failed = absurd (let k : 5 ≡ 6 = ap status_of (sym (ap reply_outcome s.0) ∙ failed) in omega (arith, k))
+failed_status text given h k outcome.Done s failed = inl (ap status_of (s.0 ∙ failed))
+failed_status text given h k outcome.No s failed = inl (ap status_of (s.0 ∙ failed))
+failed_status text given h k outcome.DiskFault s failed = inl refl
+failed_status text given h k outcome.ReadFault s failed = inl (ap status_of (s.0 ∙ failed))
+failed_status text given h k outcome.Usage s failed = inl (ap status_of (s.0 ∙ failed))
+failed_status text given h k outcome.SessionFull s failed = inl (ap status_of (s.0 ∙ failed))
+failed_status text given h k (outcome.StoreRefused why) s failed = inl (ap status_of (s.0 ∙ failed))
+failed_status text given h k (outcome.InputRefused why) s failed = inl (ap status_of (s.0 ∙ failed))

@@ -327,6 +327,18 @@ one_last o last y e = elim (kept o last y) [
   | inr none ↦ inl (ap status_of none)
 ]
 
+not_few : (n : ℕ) → (n ≡ 3) ⊎ (n ≡ 4) → IsOneOf (6 ∷ 8 ∷ []) n → ⊥
+not_few n (inl a) (inl e) = omega (arith, a, e)
+not_few n (inr a) (inl e) = omega (arith, a, e)
+not_few n (inl a) (inr (inl e)) = omega (arith, a, e)
+not_few n (inr a) (inr (inl e)) = omega (arith, a, e)
+not_few n a (inr (inr e)) = e
+
+few_last : (o last : Outcome) → EndsAs o last → IsOneOf (6 ∷ 8 ∷ []) (status_of o) → IsOneOf (6 ∷ 8 ∷ []) (status_of last)
+few_last (outcome.InputRefused why) last y e = absurd (not_few 4 (inr refl) e)
+few_last (outcome.StoreRefused why) last y e = absurd (not_few 3 (inl refl) e)
+few_last other last y e = subst (λ (x : Outcome). IsOneOf (6 ∷ 8 ∷ []) (status_of x)) (sym y) e
+
 served_last : (o last : Outcome) → EndsAs o last → MayEndFailed (status_of o) → MayEndFailed (status_of last)
 served_last o last y e = elim (kept o last y) [
   | inl same ↦ subst (λ (x : Outcome). MayEndFailed (status_of x)) (sym same) e
@@ -335,18 +347,18 @@ served_last o last y e = elim (kept o last y) [
 
 -- so the last end may follow a fault where the first may
 pub fails_last : (c : Command) (o last : Outcome) → EndsAs o last → MayHaveFailed c (status_of o) → MayHaveFailed c (status_of last)
-fails_last (command.Deliver name) o last y e = one_last o last y e
-fails_last (command.Fetch name uid) o last y e = one_last o last y e
-fails_last (command.Flag name uid flags) o last y e = one_last o last y e
-fails_last (command.Expunge name uid) o last y e = one_last o last y e
-fails_last (command.Keywords name uid words) o last y e = one_last o last y e
-fails_last (command.Copy name uid target) o last y e = one_last o last y e
-fails_last (command.Move name uid target) o last y e = one_last o last y e
-fails_last (command.Make name) o last y e = one_last o last y e
-fails_last (command.Delete name) o last y e = one_last o last y e
-fails_last (command.Rename name target) o last y e = one_last o last y e
-fails_last command.Resync o last y e = one_last o last y e
-fails_last command.Purge o last y e = one_last o last y e
+fails_last (command.Deliver name) o last y e = few_last o last y e
+fails_last (command.Fetch name uid) o last y e = few_last o last y e
+fails_last (command.Flag name uid flags) o last y e = few_last o last y e
+fails_last (command.Expunge name uid) o last y e = few_last o last y e
+fails_last (command.Keywords name uid words) o last y e = few_last o last y e
+fails_last (command.Copy name uid target) o last y e = few_last o last y e
+fails_last (command.Move name uid target) o last y e = few_last o last y e
+fails_last (command.Make name) o last y e = few_last o last y e
+fails_last (command.Delete name) o last y e = few_last o last y e
+fails_last (command.Rename name target) o last y e = few_last o last y e
+fails_last command.Resync o last y e = few_last o last y e
+fails_last command.Purge o last y e = few_last o last y e
 fails_last (command.Batch lanes) o last y e = one_last o last y e
 fails_last command.Serve o last y e = served_last o last y e
 fails_last other o last y e = six_last o last y e

@@ -89,7 +89,7 @@ served_quiet request text given h k old new began now o done s calls =
 unopened_may : (request : Request) (why : OpenError) → why ≡ error.DiskFault → MayFail request (status_of (opening_outcome why))
 unopened_may (request.List name) why e = ap (λ (w : OpenError). status_of (opening_outcome w)) e
 unopened_may request.Counts why e = ap (λ (w : OpenError). status_of (opening_outcome w)) e
-unopened_may other why e = inr (inl (ap (λ (w : OpenError). status_of (opening_outcome w)) e))
+unopened_may other why e = inl (ap (λ (w : OpenError). status_of (opening_outcome w)) e)
 
 pub unopened_ends : {D : Type 0} → (request : Request) (h : Option (List ℕ)) (old new : Option History) (began now : Faults) (why : OpenError) → IsUnopened why old new began now → RequestOutcome D (ReplyTells request) request h h old new began now (opening_outcome why)
 unopened_ends request h old new began now why u = inl (record { why = why; ended_is = refl; unprinted = refl; leaves = u })

@@ -80,7 +80,7 @@ RequestRests request.Purge = PurgeRests
 abbrev pub MayFail : Request → ℕ → Type 0
 MayFail (request.List name) status = status ≡ 6
 MayFail request.Counts status = status ≡ 6
-MayFail other status = IsOneOf (5 ∷ 6 ∷ 8 ∷ []) status
+MayFail other status = IsOneOf (6 ∷ 8 ∷ []) status
 
 -- A request was done alone on a store that was opened, and was replied this. No call of the disk failed but a read that is replied, or a
 -- change that stopped the store.

@@ -147,7 +147,7 @@ IsUnread left other = ⊥
 pub record IsDelivery (D : Type 0) (name : List ℕ) (time : ℕ) (octets : List ℕ) (held later : Option (List ℕ)) (old new : Option History) (began now : Faults) (ended : Outcome) : Type 0 where
   pub ends : SaveOutcome D name time octets held later old new began now ended
   pub moments : SaveMoments name time octets old new
-  pub rests : SaveRests name time octets (IsOneOf (5 ∷ 6 ∷ 8 ∷ []) (status_of ended)) began now old new
+  pub rests : SaveRests name time octets (IsOneOf (6 ∷ 8 ∷ []) (status_of ended)) began now old new
 
 -- How `deliver` ends: there is no message or no time, nothing is printed, no call of the disk is made, and none failed; or as the delivery of
 -- the message that the input is, at the time that the clock told.

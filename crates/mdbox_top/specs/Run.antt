@@ -157,7 +157,7 @@ HasStatus command.Version left old status = IsOneOf (0 ∷ 8 ∷ []) status
 -- The statuses with which the command may end if a call of the disk failed: 6; and for one that reads messages or changes a
 -- store, 5 and 8, since printing that a read failed, or that the store is stopped, may fail. A session goes on after a failed read.
 abbrev pub MayHaveFailed : Command → ℕ → Type 0
-MayHaveFailed (command.Deliver name) status = IsOneOf (5 ∷ 6 ∷ 8 ∷ []) status
+MayHaveFailed (command.Deliver name) status = IsOneOf (6 ∷ 8 ∷ []) status
 MayHaveFailed (command.Fetch name uid) status = MayFail (request.Fetch name uid) status
 MayHaveFailed (command.Flag name uid flags) status = MayFail (request.Flag name uid flags) status
 MayHaveFailed (command.Keywords name uid words) status = MayFail (request.Keywords name uid words) status

@@ -2,13 +2,15 @@
 use Rattle.std.specs.Prelude.{◌≡◌, ◌⊎◌, ℕ, List, [], ◌∷◌, Option, Some}
 use Rattle.disk_model.specs.Disk.{History, Faults}
 use Rattle.mdbox_base.specs.Streams.{Appended}
+use Rattle.mdbox_base.specs.declared.replies.Refusal.TheVariants as refusal
 use Rattle.mdbox_base.specs.declared.replies.Reply.{Reply}
+use Rattle.mdbox_base.specs.declared.replies.Reply.TheVariants as reply
 use Rattle.mdbox_base.specs.declared.requests.Request.{Request}
 use Rattle.mdbox_base.specs.declared.script.JournalEntry.{JournalEntry}
 use Rattle.store_open.specs.declared.error.OpenError.{OpenError}
 use Rattle.piece_writer.specs.Pieces.{WritesPrefix}
 use Rattle.request_text.specs.Outcomes.{reply_outcome}
-use Rattle.request_text.specs.ReplyText.{single_text}
+use Rattle.request_text.specs.ReplyText.{single_text, IsLong}
 use Rattle.request_text.specs.declared.outcome.Outcome.{Outcome}
 use Rattle.request_text.specs.declared.outcome.Outcome.TheVariants as outcome
 use Rattle.script_run.specs.Done.{IsScriptDone}
@@ -18,10 +20,11 @@ use Rattle.script_run.specs.Worked.{IsWorkedOut}
 use Rattle.mdbox_top.specs.OpeningOutcome.{opening_outcome}
 use Rattle.tasks_alone.specs.FaultsAlone.{FaultsByReply}
 
--- How a reply with this text is printed: whole; or a prefix of it, for a fault of the output or out of memory.
+-- How a reply with this text is printed: whole; or a prefix of it, for a fault of the output. Out of memory only a listing or a message is
+-- cut off: any other reply is printed whole.
 abbrev pub ShowsReply : List ℕ → Reply → Option (List ℕ) → Option (List ℕ) → Outcome → Type 0
 ShowsReply text given held later outcome.WriteFault = WritesPrefix held [] text later
-ShowsReply text given held later outcome.NoMemory = WritesPrefix held [] text later
+ShowsReply text given held later outcome.NoMemory = (IsLong given × WritesPrefix held [] text later) ⊎ ((given ≡ reply.Refused refusal.NoMemory) × Appended held text later)
 ShowsReply text given held later ended = (ended ≡ reply_outcome given) × Appended held text later
 
 -- The store was not opened, for a cause in the files, a fault, or out of memory: nothing was printed, and no request was begun. So the

@@ -13,7 +13,8 @@ ghost use Rattle.mdbox_top.specs.Alone.{ReplyTells, RequestMoments, RequestRests
 ghost use Rattle.mdbox_top.specs.Served.{RequestOutcome, ShowsReply};
 ghost use Rattle.request_text.specs.Outcomes.{status_of};
 ghost use Rattle.piece_writer.specs.Pieces.{IsPrintError, WritesPrefix};
-ghost use Rattle.request_text.specs.ReplyText.{fetched_text, reply_text};
+ghost use Rattle.piece_writer.specs.declared.error.PrintError.TheVariants as print;
+ghost use Rattle.request_text.specs.ReplyText.{fetched_text, reply_text, IsLong};
 ghost use Rattle.request_text.specs.declared.outcome.Outcome.TheVariants as outcome;
 
 use crate::opening::outcome_of;
@@ -107,6 +108,7 @@ fn print_single<O: Sink>(
     ensures err { OnErr result (WritesPrefix (O.held output.old) [] (if octets_alone then fetched_text given.now else reply_text given.now) (O.held output.new)) }
     ensures quiet { OnOk result (O.faults output.new ≡ O.faults output.old) }
     ensures cause { IfErr result (IsPrintError (O.faults output.old) (O.faults output.new)) }
+    ensures memory { IfErr result (λ error. error ≡ print.NoMemory → IsLong given.now) }
     ensures counted { O.faults output.old ≤ O.faults output.new }
 {
     if octets_alone {

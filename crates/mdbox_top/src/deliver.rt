@@ -32,11 +32,11 @@ pub fn deliver<D: Disk, I: Source, O: Sink, C: Clock>(
 ) -> (Outcome, D)
     ensures ends { DeliverOutcome D name (I.left input.old) (C.time clock.old) (O.held output.old) (O.held output.new) (D.history disk) (D.history result.1) (D.faults disk) (D.faults result.1) result.0 }
     ensures moments { DeliverMoments name (I.left input.old) (C.time clock.old) (D.history disk) (D.history result.1) }
-    ensures rests { DeliverRests name (I.left input.old) (C.time clock.old) (IsOneOf (5 ∷ 6 ∷ 8 ∷ []) (status_of result.0)) (D.faults disk) (D.faults result.1) (D.history disk) (D.history result.1) }
+    ensures rests { DeliverRests name (I.left input.old) (C.time clock.old) (IsOneOf (6 ∷ 8 ∷ []) (status_of result.0)) (D.faults disk) (D.faults result.1) (D.history disk) (D.history result.1) }
     ensures disk_fault { AnyFaultCounted (result.0 ≡ outcome.DiskFault) (D.faults disk) (D.faults result.1) }
     ensures read_fault { result.0 ≡ outcome.ReadFault → Rose (I.faults input.old) (I.faults input.new) ⊎ (Rose (C.faults clock.old) (C.faults clock.new) × IsReadWhole (I.left input.old) (I.left input.new)) }
     ensures write_fault { result.0 ≡ outcome.WriteFault → Rose (O.faults output.old) (O.faults output.new) }
-    ensures disk_quiet { (IsOneOf (5 ∷ 6 ∷ 8 ∷ []) (status_of result.0) → ⊥) → NoFault (D.faults disk) (D.faults result.1) }
+    ensures disk_quiet { (IsOneOf (6 ∷ 8 ∷ []) (status_of result.0) → ⊥) → NoFault (D.faults disk) (D.faults result.1) }
     ensures uncalled { (result.0 ≡ outcome.ReadFault) ⊎ ((why : InputRefusal) × (result.0 ≡ outcome.InputRefused why)) → result.1 ≡ disk }
     ensures read_quiet { result.0 ≢ outcome.ReadFault → I.faults input.new ≡ I.faults input.old }
     ensures clock_quiet { result.0 ≢ outcome.ReadFault → C.faults clock.new ≡ C.faults clock.old }

@@ -226,10 +226,12 @@ fn perform<P: Preparer, D: Disk, I: Source, O: Sink, E: Sink, C: Clock>(
             serve(alloc, Request::Fetch { name, uid }, None, disk, output)
         }
         Command::Flag { name, uid, flags } => {
-            serve(alloc, Request::Flag { name, uid, flags }, None, disk, output)
+            let request = Request::Flag { name, uid, flags };
+            serve(alloc, request, None, disk, output)
         }
         Command::Keywords { name, uid, words } => {
-            serve(alloc, Request::Keywords { name, uid, words }, None, disk, output)
+            let request = Request::Keywords { name, uid, words };
+            serve(alloc, request, None, disk, output)
         }
         Command::Boxes => boxes(alloc, disk, output),
         Command::Counts => serve(alloc, Request::Counts, None, disk, output),
@@ -239,10 +241,12 @@ fn perform<P: Preparer, D: Disk, I: Source, O: Sink, E: Sink, C: Clock>(
             serve(alloc, Request::Expunge { name, uid }, None, disk, output)
         }
         Command::Copy { name, uid, target } => {
-            serve(alloc, Request::Copy { name, uid, target }, None, disk, output)
+            let request = Request::Copy { name, uid, target };
+            serve(alloc, request, None, disk, output)
         }
         Command::Move { name, uid, target } => {
-            serve(alloc, Request::Move { name, uid, target }, None, disk, output)
+            let request = Request::Move { name, uid, target };
+            serve(alloc, request, None, disk, output)
         }
         Command::Make { name } => serve(alloc, Request::Make { name }, None, disk, output),
         Command::Delete { name } => serve(alloc, Request::Delete { name }, None, disk, output),

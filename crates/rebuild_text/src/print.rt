@@ -80,7 +80,6 @@ fn put_lines<O: Sink>(
 
 /// Adds the report of a rebuild to the piece.
 fn put_report<O: Sink>(
-    alloc: Global,
     output: &mut O,
     writer: &mut PieceWriter,
     skipped: &[SkippedAt],
@@ -94,7 +93,7 @@ fn put_report<O: Sink>(
     ensures counted { O.faults output.old ≤ O.faults output.new }
 {
     put_lines(output, writer, skipped)?;
-    let line = numbers_line(alloc, &[mailboxes, messages])?;
+    let line = numbers_line(&[mailboxes, messages]);
     put_line(output, writer, &line)
 }
 
@@ -114,6 +113,6 @@ pub fn print_report<O: Sink>(
     ensures counted { O.faults output.old ≤ O.faults output.new }
 {
     let mut writer = PieceWriter::empty(alloc);
-    put_report(alloc, output, &mut writer, skipped, mailboxes, messages)?;
+    put_report(output, &mut writer, skipped, mailboxes, messages)?;
     writer.finish(output)
 }

@@ -1,4 +1,5 @@
 pub mod BatchLemmas
+pub mod GivenWordLemmas
 pub mod OrderLemmas
 pub mod ReplyPrintLemmas
 pub mod WordsLemmas

@@ -72,6 +72,12 @@ reply_text (reply.Resynced corrected damaged) = ok_line (numbers_text (corrected
 reply_text (reply.AltMoved moved dropped) = ok_line (numbers_text (moved ∷ dropped ∷ []))
 reply_text (reply.Refused refusal) = codes "NO " ++ (refusal_text refusal ++ 10 ∷ [])
 
+-- A listing, or a message: their texts have no bound.
+abbrev pub IsLong : Reply → Type 0
+IsLong (reply.Listed rows) = Unit {0}
+IsLong (reply.Fetched octets) = Unit {0}
+IsLong other = ⊥
+
 -- The text of the reply to a single request: of a fetch the octets alone.
 abbrev pub fetched_text : Reply → List ℕ
 fetched_text (reply.Fetched octets) = octets

@@ -31,7 +31,6 @@ pub fn print_batch<O: Sink>(
     while request < replies.len() {
         let number = request as u64 + 1;
         put_answer(
-            alloc,
             output,
             &mut writer,
             number,
@@ -64,20 +63,12 @@ pub fn print_answer<O: Sink>(
     let steps = steps_behind(journal, before, request);
     let mut writer = PieceWriter::empty(alloc);
     let number = request as u64 + 1;
-    put_numbered(
-        alloc,
-        output,
-        &mut writer,
-        number,
-        steps.places(given),
-        given,
-    )?;
+    put_numbered(output, &mut writer, number, steps.places(given), given)?;
     writer.finish(output)
 }
 
 /// Adds the reply to a request of a script, if it has one, to the piece. A piece that is full is given to the output.
 fn put_answer<O: Sink>(
-    alloc: Global,
     output: &mut O,
     writer: &mut PieceWriter,
     number: u64,
@@ -91,14 +82,13 @@ fn put_answer<O: Sink>(
     ensures counted { O.faults output.old ≤ O.faults output.new }
 {
     match answer {
-        Some(given) => put_numbered(alloc, output, writer, number, steps.places(given), given),
+        Some(given) => put_numbered(output, writer, number, steps.places(given), given),
         None => Ok(()),
     }
 }
 
 /// Adds a reply with its request's number and places to the piece. A piece that is full is given to the output.
 fn put_numbered<O: Sink>(
-    alloc: Global,
     output: &mut O,
     writer: &mut PieceWriter,
     number: u64,
@@ -112,7 +102,7 @@ fn put_numbered<O: Sink>(
     ensures counted { O.faults output.old ≤ O.faults output.new }
 {
     push_front(&mut writer.piece, number, places)?;
-    put_reply(alloc, output, writer, given)
+    put_reply(output, writer, given)
 }
 
 /// Adds a request's number and places, each before a space.

@@ -4,7 +4,8 @@ ghost use Rattle.mdbox_base.specs.Streams.{Appended};
 ghost use Rattle.piece_writer.specs.Pieces.{Gathers, WritesPrefix, IsPrintError};
 ghost use Rattle.request_text.specs.BoxesText.{box_line, boxes_text};
 
-use crate::reply_print::{numbers_line, push_numbers, put_line};
+use crate::reply_line::numbers_line;
+use crate::reply_print::{push_numbers, put_line};
 use mdbox_base::{NoMemory, Octets, Sink, push_decimal};
 use piece_writer::{PieceWriter, PrintError};
 use std::alloc::Global;
@@ -53,7 +54,6 @@ fn put_box<O: Sink>(
 
 /// Adds how many mailboxes there are, and the line of each, to the piece.
 fn put_boxes<O: Sink>(
-    alloc: Global,
     output: &mut O,
     writer: &mut PieceWriter,
     rows: &[BoxRow],
@@ -64,7 +64,7 @@ fn put_boxes<O: Sink>(
     ensures cause { IfErr result (IsPrintError (O.faults output.old) (O.faults output.new)) }
     ensures counted { O.faults output.old ≤ O.faults output.new }
 {
-    let line = numbers_line(alloc, &[rows.len() as u64])?;
+    let line = numbers_line(&[rows.len() as u64]);
     put_line(output, writer, &line)?;
     for row in rows {
         put_box(output, writer, row)?;
@@ -85,6 +85,6 @@ pub fn print_boxes<O: Sink>(
     ensures counted { O.faults output.old ≤ O.faults output.new }
 {
     let mut writer = PieceWriter::empty(alloc);
-    put_boxes(alloc, output, &mut writer, rows)?;
+    put_boxes(output, &mut writer, rows)?;
     writer.finish(output)
 }

@@ -17,7 +17,12 @@ pub fn first_other(words: &[String]) -> Option<usize>
     ensures some { IfSome result (λ place. (place < length words.now) × (IsKeyword (text_at (map string_bytes words.now) place) → ⊥) × ((earlier : ℕ) → earlier < place → IsKeyword (text_at (map string_bytes words.now) earlier))) }
     ensures none { IfNone result (All IsKeyword (map string_bytes words.now)) }
 {
-    words.iter().position(|word| !is_keyword(word.as_bytes()))
+    for (place, word) in words.iter().enumerate() {
+        if !is_keyword(word.as_bytes()) {
+            return Some(place);
+        }
+    }
+    None
 }
 
 /// Whether each word is a keyword.

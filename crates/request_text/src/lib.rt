@@ -11,9 +11,8 @@ pub use outcome::{
     FileRefusal, InputRefusal, Outcome, StoreRefusal, outcome_of_replies, outcome_of_reply,
 };
 pub use places::{Places, Steps};
-pub use reply_print::{
-    numbers_line, print_fetch_alone, print_reply, push_answer, push_numbers, put_line,
-};
+pub use reply_line::{Line, numbers_line};
+pub use reply_print::{print_fetch_alone, print_reply, push_answer, push_numbers, put_line};
 pub use status::Status;
 pub use summary::{Summary, print_summary};
 pub use words::{WordsError, read_words};
@@ -26,6 +25,7 @@ mod keywords;
 mod laws;
 mod outcome;
 mod places;
+mod reply_line;
 mod reply_print;
 mod status;
 mod summary;

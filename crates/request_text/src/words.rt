@@ -33,19 +33,37 @@ pub fn read_words(alloc: Global, words: &[String]) -> Result<Command, WordsError
     ensures memory { IsErrOf result words_error.NoMemory → (command : Command) × NamesMailbox command × SaysOnly (map string_bytes words.now) command }
 {
     match words {
-        [verb, name, uid, keywords @ ..] if verb.as_str() == "keywords" => {
-            read_keywords(alloc, name.as_bytes(), uid.as_bytes(), keywords)
-        }
         [word] => read_one(word.as_str()),
         [verb, word] => read_two(alloc, verb.as_str(), word.as_bytes()),
-        [verb, name, uid] => read_three(alloc, verb.as_str(), name.as_bytes(), uid.as_bytes()),
-        [verb, name, uid, last] => read_four(
+        [verb, first, second, others @ ..] => read_more(
             alloc,
             verb.as_str(),
-            name.as_bytes(),
-            uid.as_bytes(),
-            last.as_bytes(),
+            first.as_bytes(),
+            second.as_bytes(),
+            others,
         ),
+        _ => Err(WordsError::Usage),
+    }
+}
+
+/// The command that three words and others say.
+fn read_more(
+    alloc: Global,
+    verb: &str,
+    first: &[u8],
+    second: &[u8],
+    others: &[String],
+) -> Result<Command, WordsError>
+    ensures says { IfOk result (Says (verb.now ∷ first.now ∷ second.now ∷ map string_bytes others.now)) }
+    ensures usage { IsErrOf result words_error.Usage → SayNothing (verb.now ∷ first.now ∷ second.now ∷ map string_bytes others.now) }
+    ensures memory { IsErrOf result words_error.NoMemory → (command : Command) × NamesMailbox command × Says (verb.now ∷ first.now ∷ second.now ∷ map string_bytes others.now) command }
+{
+    if verb == "keywords" {
+        return read_keywords(alloc, first, second, others);
+    }
+    match others {
+        [] => read_three(alloc, verb, first, second),
+        [third] => read_four(alloc, verb, first, second, third.as_bytes()),
         _ => Err(WordsError::Usage),
     }
 }
@@ -164,8 +182,9 @@ fn read_batch(word: &[u8]) -> Result<Command, WordsError>
     }
 }
 
-/// The command that three words say.
+/// The command that three words say, of which the first isn't `keywords`.
 fn read_three(alloc: Global, verb: &str, first: &[u8], second: &[u8]) -> Result<Command, WordsError>
+    requires { verb.now ≢ codes "keywords" }
     ensures says { IfOk result (Says (verb.now ∷ first.now ∷ second.now ∷ [])) }
     ensures usage { IsErrOf result words_error.Usage → SayNothing (verb.now ∷ first.now ∷ second.now ∷ []) }
     ensures memory { IsErrOf result words_error.NoMemory → (command : Command) × NamesMailbox command × Says (verb.now ∷ first.now ∷ second.now ∷ []) command }
@@ -214,7 +233,7 @@ fn read_rename(alloc: Global, name: &[u8], target: &[u8]) -> Result<Command, Wor
     Ok(Command::Rename { name, target })
 }
 
-/// The command that four words say.
+/// The command that four words say, of which the first isn't `keywords`.
 fn read_four(
     alloc: Global,
     verb: &str,
@@ -222,6 +241,7 @@ fn read_four(
     second: &[u8],
     third: &[u8],
 ) -> Result<Command, WordsError>
+    requires { verb.now ≢ codes "keywords" }
     ensures says { IfOk result (Says (verb.now ∷ first.now ∷ second.now ∷ third.now ∷ [])) }
     ensures usage { IsErrOf result words_error.Usage → SayNothing (verb.now ∷ first.now ∷ second.now ∷ third.now ∷ []) }
     ensures memory { IsErrOf result words_error.NoMemory → (command : Command) × NamesMailbox command × Says (verb.now ∷ first.now ∷ second.now ∷ third.now ∷ []) command }

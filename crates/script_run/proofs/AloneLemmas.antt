@@ -211,31 +211,14 @@ Ends asked given = IsUnanswered given ⊎ ((given ≡ reply.Refused refusal.Read
 
 ends_by : (asked : Request) (given : Reply) (answers : List Reply) → HasOneEvent asked → IsReplyOf asked answers given → Ends asked given
 unfolding Ends
-ends_by (request.List name) (reply.Refused refusal.NoMemory) answers one r = inl (inl refl)
-ends_by (request.List name) (reply.Refused refusal.ReadFault) answers one r = inr (inl refl)
-ends_by (request.List name) (reply.Refused refusal.Stopped) answers one r = inl (inr refl)
-ends_by (request.List name) (reply.Refused (refusal.Damaged file offset)) answers one r = absurd r
-ends_by (request.List name) (reply.Refused why) answers one r = inr (inr refl)
-ends_by (request.List name) given answers one r = inr (inr tt)
-ends_by (request.Flag name uid flags) (reply.Refused refusal.NoMemory) answers one r = inl (inl refl)
-ends_by (request.Flag name uid flags) (reply.Refused refusal.ReadFault) answers one r = inr (inl refl)
-ends_by (request.Flag name uid flags) (reply.Refused refusal.Stopped) answers one r = inl (inr refl)
-ends_by (request.Flag name uid flags) (reply.Refused (refusal.Damaged file offset)) answers one r = absurd r
-ends_by (request.Flag name uid flags) (reply.Refused why) answers one r = inr (inr refl)
-ends_by (request.Flag name uid flags) given answers one r = inr (inr tt)
-ends_by (request.Keywords name uid words) (reply.Refused refusal.NoMemory) answers one r = inl (inl refl)
-ends_by (request.Keywords name uid words) (reply.Refused refusal.ReadFault) answers one r = inr (inl refl)
-ends_by (request.Keywords name uid words) (reply.Refused refusal.Stopped) answers one r = inl (inr refl)
-ends_by (request.Keywords name uid words) (reply.Refused (refusal.Damaged file offset)) answers one r = absurd r
-ends_by (request.Keywords name uid words) (reply.Refused why) answers one r = inr (inr refl)
-ends_by (request.Keywords name uid words) given answers one r = inr (inr tt)
-ends_by request.Counts (reply.Refused refusal.NoMemory) answers one r = inl (inl refl)
-ends_by request.Counts (reply.Refused refusal.ReadFault) answers one r = inr (inl refl)
-ends_by request.Counts (reply.Refused refusal.Stopped) answers one r = inl (inr refl)
-ends_by request.Counts (reply.Refused (refusal.Damaged file offset)) answers one r = absurd r
-ends_by request.Counts (reply.Refused why) answers one r = inr (inr refl)
-ends_by request.Counts given answers one r = inr (inr tt)
-ends_by other given answers one r = absurd one
+ends_by (request.Fetch name uid) given answers one r = absurd one
+ends_by (request.Move name uid target) given answers one r = absurd one
+ends_by asked (reply.Refused refusal.NoMemory) answers one r = inl (inl refl)
+ends_by asked (reply.Refused refusal.ReadFault) answers one r = inr (inl refl)
+ends_by asked (reply.Refused refusal.Stopped) answers one r = inl (inr refl)
+ends_by asked (reply.Refused (refusal.Damaged file offset)) answers one r = absurd r
+ends_by asked (reply.Refused why) answers one r = inr (inr refl)
+ends_by asked given answers one r = inr (inr tt)
 
 answered : (asked : Request) (given : Reply) (entries : List JournalEntry) (old new : Option History) (began now : Faults) → (done : IsScriptDone (alone asked) (given ∷ []) entries old new began now) → HasOneEvent asked → (lists : Lists) → LogsShowLists done.m done.meanings lists → IsOneStep asked given
     → IsAnsweredFirst asked done.m lists given

@@ -24,7 +24,7 @@ use Rattle.lane_tasks.specs.Tasks.{BeginsTask, IsTaskOf}
 use Rattle.lane_tasks.specs.declared.task.Task.{Task}
 use Rattle.lane_tasks.specs.declared.task.Task.TheVariants as task
 use Rattle.lane_tasks.proofs.StepLemmas.{ops_asked}
-use Rattle.script_run.proofs.OneTaskLemmas.{IsChangeTold, KeepsAlone, missing_answers, one_refusal, some_reply, tells_words, there_answers, told_so}
+use Rattle.script_run.proofs.OneTaskLemmas.{IsChangeTold, KeepsAlone, missing_answers, one_refusal, some_reply, tells_ops, there_answers, told_so}
 
 -- ---- what is replied
 
@@ -101,16 +101,8 @@ begun_delete name s mid running (task.Delete t) b =
     let names : name ≡ t.name = cc k in
     (sym names, running, subst (λ (now : DeleteStage). AtDelete name s mid now s mid) (sym b.at) (refl, refl))
 begun_delete name s mid running (task.Ops t) b = b.is_of
-begun_delete name s mid running (task.Counts t) b = absurd (cc b.is_of)
-begun_delete name s mid running (task.Make t) b = absurd (cc b.is_of)
-begun_delete name s mid running (task.Copy t) b = absurd (cc b.is_of)
-begun_delete name s mid running (task.Move t) b = absurd (cc b.is_of)
-begun_delete name s mid running (task.Expunge t) b = absurd (cc b.is_of)
-begun_delete name s mid running (task.Fetch t) b = absurd (cc b.is_of)
-begun_delete name s mid running (task.Purge t) b = absurd (cc b.is_of)
-begun_delete name s mid running (task.Rename t) b = absurd (cc b.is_of)
 begun_delete name s mid running (task.Deliver t) b = absurd b.is_of
-begun_delete name s mid running (task.Resync t) b = absurd (cc b.is_of)
+begun_delete name s mid running t b = absurd (cc b.is_of)
 
 -- ---- a renaming, whose only event is its first
 
@@ -153,16 +145,8 @@ begun_rename name target s mid running (task.Rename t) b =
     let targets : target ≡ t.target = cc k in
     (sym names, sym targets, running, refl, refl)
 begun_rename name target s mid running (task.Ops t) b = b.is_of
-begun_rename name target s mid running (task.Counts t) b = absurd (cc b.is_of)
-begun_rename name target s mid running (task.Make t) b = absurd (cc b.is_of)
-begun_rename name target s mid running (task.Copy t) b = absurd (cc b.is_of)
-begun_rename name target s mid running (task.Move t) b = absurd (cc b.is_of)
-begun_rename name target s mid running (task.Expunge t) b = absurd (cc b.is_of)
-begun_rename name target s mid running (task.Fetch t) b = absurd (cc b.is_of)
-begun_rename name target s mid running (task.Purge t) b = absurd (cc b.is_of)
-begun_rename name target s mid running (task.Delete t) b = absurd (cc b.is_of)
 begun_rename name target s mid running (task.Deliver t) b = absurd b.is_of
-begun_rename name target s mid running (task.Resync t) b = absurd (cc b.is_of)
+begun_rename name target s mid running t b = absurd (cc b.is_of)
 
 -- ---- a setting of keywords, whose only event is its first
 
@@ -178,7 +162,7 @@ words_answered None mid before after given s new was (inr (inr fell)) same = sub
 
 pub keeps_words : {D : Type 0} → (name : List ℕ) (uid : Uid) (words : List (List ℕ)) (s : StoreValue D) (mid : Option History) → KeepsAlone (StandsWords name uid words s mid) (λ given store history. IsChangeTold (flag_refusal name uid.0 s) mid given history)
 keeps_words name uid words s mid queued next event old new before after first second is goes =
-    let told = tells_words queued.task next name uid words old new before after (ended_by event.ended) is.0 goes.keeps.tells in
+    let told = tells_ops queued.task next (request.Keywords name uid words) old new before after (ended_by event.ended) tt is.0 goes.keeps.tells in
     let answers = subst (λ (v : StoreValue _). WordsAnswers (flag_refusal name uid.0 v) v new told.0) is.1 told.2 in (
       λ more. absurd (let k : None ≡ Some told.0 = sym more ∙ told.1 in cc k),
       λ given e.

@@ -231,16 +231,8 @@ begun_make name s mid running (task.Make t) b =
     let names : name ≡ t.name = cc k in
     (sym names, running, subst (λ (now : MakeStage). AtMake name s mid now s mid) (sym b.at) (refl, refl))
 begun_make name s mid running (task.Ops t) b = b.is_of
-begun_make name s mid running (task.Counts t) b = absurd (cc b.is_of)
-begun_make name s mid running (task.Copy t) b = absurd (cc b.is_of)
-begun_make name s mid running (task.Move t) b = absurd (cc b.is_of)
-begun_make name s mid running (task.Expunge t) b = absurd (cc b.is_of)
-begun_make name s mid running (task.Fetch t) b = absurd (cc b.is_of)
-begun_make name s mid running (task.Purge t) b = absurd (cc b.is_of)
-begun_make name s mid running (task.Delete t) b = absurd (cc b.is_of)
-begun_make name s mid running (task.Rename t) b = absurd (cc b.is_of)
 begun_make name s mid running (task.Deliver t) b = absurd b.is_of
-begun_make name s mid running (task.Resync t) b = absurd (cc b.is_of)
+begun_make name s mid running t b = absurd (cc b.is_of)
 
 -- ---- behind the opening
 

@@ -134,13 +134,5 @@ begun_move name uid target s mid running (task.Move t) b =
     let targets : target ≡ t.target = cc k in
     (sym names, sym uids, sym targets, running, subst (λ (now : MoveStage). AtMove name uid target s mid now s mid) (sym b.at) (refl, refl))
 begun_move name uid target s mid running (task.Ops t) b = b.is_of
-begun_move name uid target s mid running (task.Counts t) b = absurd (cc b.is_of)
-begun_move name uid target s mid running (task.Make t) b = absurd (cc b.is_of)
-begun_move name uid target s mid running (task.Expunge t) b = absurd (cc b.is_of)
-begun_move name uid target s mid running (task.Copy t) b = absurd (cc b.is_of)
-begun_move name uid target s mid running (task.Fetch t) b = absurd (cc b.is_of)
-begun_move name uid target s mid running (task.Purge t) b = absurd (cc b.is_of)
-begun_move name uid target s mid running (task.Delete t) b = absurd (cc b.is_of)
-begun_move name uid target s mid running (task.Rename t) b = absurd (cc b.is_of)
 begun_move name uid target s mid running (task.Deliver t) b = absurd b.is_of
-begun_move name uid target s mid running (task.Resync t) b = absurd (cc b.is_of)
+begun_move name uid target s mid running t b = absurd (cc b.is_of)

@@ -144,52 +144,27 @@ alone_fresh Holds at asked rows holds are k row there queued h =
 
 -- ---- a setting of flags
 
+-- what the task of a listing, or of a setting of flags or keywords, tells
+pub tells_ops : {D : Type 0} → (t next : Task) (asked : Request) (old new : StoreValue D) (before after : Option History) (ended : Option Reply) → IsOpsRequest asked → IsTaskOf t asked → TellsStore t next old new before after ended → (given : Reply) × (ended ≡ Some given) × Replies asked old new given
+tells_ops (task.Ops t) next asked old new before after ended ops of tells = (tells.0, tells.1, subst (λ (q : Request). Replies q old new tells.0) (sym of) tells.2)
+tells_ops (task.Deliver t) next (request.Deliver name time octets) old new before after ended ops of tells = absurd ops
+tells_ops (task.Deliver t) next asked old new before after ended ops of tells = absurd of
+tells_ops t next asked old new before after ended ops of tells = absurd (subst IsOpsRequest of ops)
+
 abbrev pub StandsFlag : {D : Type 0} → List ℕ → Uid → ℕ → StoreValue D → Task → StoreValue D → Option History → Type 0
 StandsFlag name uid flags s t store history = IsTaskOf t (request.Flag name uid flags) × (store ≡ s)
 
 abbrev pub IsFlagTold : {D : Type 0} → List ℕ → Uid → ℕ → StoreValue D → Reply → StoreValue D → Option History → Type 0
 IsFlagTold name uid flags s given store history = Replies (request.Flag name uid flags) s store given
 
--- what its task tells
-tells_flag : {D : Type 0} → (t next : Task) (name : List ℕ) (uid : Uid) (flags : ℕ) (old new : StoreValue D) (before after : Option History) (ended : Option Reply) → IsTaskOf t (request.Flag name uid flags) → TellsStore t next old new before after ended → (given : Reply) × (ended ≡ Some given) × Replies (request.Flag name uid flags) old new given
-tells_flag (task.Ops t) next name uid flags old new before after ended of tells = (tells.0, tells.1, subst (λ (q : Request). Replies q old new tells.0) (sym of) tells.2)
-tells_flag (task.Counts t) next name uid flags old new before after ended of tells = absurd (cc of)
-tells_flag (task.Make t) next name uid flags old new before after ended of tells = absurd (cc of)
-tells_flag (task.Copy t) next name uid flags old new before after ended of tells = absurd (cc of)
-tells_flag (task.Move t) next name uid flags old new before after ended of tells = absurd (cc of)
-tells_flag (task.Expunge t) next name uid flags old new before after ended of tells = absurd (cc of)
-tells_flag (task.Fetch t) next name uid flags old new before after ended of tells = absurd (cc of)
-tells_flag (task.Resync t) next name uid flags old new before after ended of tells = absurd (cc of)
-tells_flag (task.Purge t) next name uid flags old new before after ended of tells = absurd (cc of)
-tells_flag (task.Delete t) next name uid flags old new before after ended of tells = absurd (cc of)
-tells_flag (task.Rename t) next name uid flags old new before after ended of tells = absurd (cc of)
-tells_flag (task.Deliver t) next name uid flags old new before after ended of tells = absurd of
-
 pub keeps_flag : {D : Type 0} → (name : List ℕ) (uid : Uid) (flags : ℕ) (s : StoreValue D) → KeepsAlone (StandsFlag name uid flags s) (IsFlagTold name uid flags s)
 keeps_flag name uid flags s queued next event old new before after first second is goes =
-    let told = tells_flag queued.task next name uid flags old new before after (ended_by event.ended) is.0 goes.keeps.tells in (
+    let told = tells_ops queued.task next (request.Flag name uid flags) old new before after (ended_by event.ended) tt is.0 goes.keeps.tells in (
       λ more. absurd (let k : None ≡ Some told.0 = sym more ∙ told.1 in cc k),
       λ given e.
           let same : told.0 ≡ given = some_reply told.0 given (sym told.1 ∙ e) in
           subst (λ (v : StoreValue _). Replies (request.Flag name uid flags) v new given) is.1 (subst (λ (r : Reply). Replies (request.Flag name uid flags) old new r) same told.2),
     )
-
--- ---- a setting of keywords
-
--- what its task tells
-pub tells_words : {D : Type 0} → (t next : Task) (name : List ℕ) (uid : Uid) (words : List (List ℕ)) (old new : StoreValue D) (before after : Option History) (ended : Option Reply) → IsTaskOf t (request.Keywords name uid words) → TellsStore t next old new before after ended → (given : Reply) × (ended ≡ Some given) × Replies (request.Keywords name uid words) old new given
-tells_words (task.Ops t) next name uid words old new before after ended of tells = (tells.0, tells.1, subst (λ (q : Request). Replies q old new tells.0) (sym of) tells.2)
-tells_words (task.Counts t) next name uid words old new before after ended of tells = absurd (cc of)
-tells_words (task.Make t) next name uid words old new before after ended of tells = absurd (cc of)
-tells_words (task.Copy t) next name uid words old new before after ended of tells = absurd (cc of)
-tells_words (task.Move t) next name uid words old new before after ended of tells = absurd (cc of)
-tells_words (task.Expunge t) next name uid words old new before after ended of tells = absurd (cc of)
-tells_words (task.Fetch t) next name uid words old new before after ended of tells = absurd (cc of)
-tells_words (task.Resync t) next name uid words old new before after ended of tells = absurd (cc of)
-tells_words (task.Purge t) next name uid words old new before after ended of tells = absurd (cc of)
-tells_words (task.Delete t) next name uid words old new before after ended of tells = absurd (cc of)
-tells_words (task.Rename t) next name uid words old new before after ended of tells = absurd (cc of)
-tells_words (task.Deliver t) next name uid words old new before after ended of tells = absurd of
 
 -- ---- an expunge
 
@@ -274,13 +249,5 @@ begun_expunge name uid s mid running (task.Expunge t) b =
     let uids : uid ≡ t.uid = cc k in
     (sym names, sym uids, running, subst (λ (now : ExpungeStage). AtExpunge name uid s mid now s mid) (sym b.at) (refl, refl))
 begun_expunge name uid s mid running (task.Ops t) b = b.is_of
-begun_expunge name uid s mid running (task.Counts t) b = absurd (cc b.is_of)
-begun_expunge name uid s mid running (task.Make t) b = absurd (cc b.is_of)
-begun_expunge name uid s mid running (task.Copy t) b = absurd (cc b.is_of)
-begun_expunge name uid s mid running (task.Move t) b = absurd (cc b.is_of)
-begun_expunge name uid s mid running (task.Fetch t) b = absurd (cc b.is_of)
-begun_expunge name uid s mid running (task.Purge t) b = absurd (cc b.is_of)
-begun_expunge name uid s mid running (task.Delete t) b = absurd (cc b.is_of)
-begun_expunge name uid s mid running (task.Rename t) b = absurd (cc b.is_of)
 begun_expunge name uid s mid running (task.Deliver t) b = absurd b.is_of
-begun_expunge name uid s mid running (task.Resync t) b = absurd (cc b.is_of)
+begun_expunge name uid s mid running t b = absurd (cc b.is_of)

@@ -184,13 +184,5 @@ quiet_begun s mid t unused = between-begins (λ began now. IsQuietFrom stage.Fir
 pub begun_purge : {D : Type 0} → (s : StoreValue D) (mid : Option History) → HasNoTask s → s.stopped ≡ false → (t : Task) → BeginsTask request.Purge t → StandsPurge s mid t s mid
 begun_purge s mid unused running (task.Purge t) b = (running, subst (λ (at : PurgeStage). AtPurge s.map at t.dropped s.map) (sym b.at) refl, subst (λ (at : PurgeStage). AtQuiet s mid at t s mid) (sym b.at) (quiet_begun s mid t unused), subst (λ (at : PurgeStage). AtOpened s mid at s mid) (sym b.at) (refl, refl))
 begun_purge s mid unused running (task.Ops t) b = b.is_of
-begun_purge s mid unused running (task.Counts t) b = absurd (cc b.is_of)
-begun_purge s mid unused running (task.Make t) b = absurd (cc b.is_of)
-begun_purge s mid unused running (task.Copy t) b = absurd (cc b.is_of)
-begun_purge s mid unused running (task.Expunge t) b = absurd (cc b.is_of)
-begun_purge s mid unused running (task.Move t) b = absurd (cc b.is_of)
-begun_purge s mid unused running (task.Fetch t) b = absurd (cc b.is_of)
-begun_purge s mid unused running (task.Delete t) b = absurd (cc b.is_of)
-begun_purge s mid unused running (task.Rename t) b = absurd (cc b.is_of)
-begun_purge s mid unused running (task.Resync t) b = absurd (cc b.is_of)
 begun_purge s mid unused running (task.Deliver t) b = absurd b.is_of
+begun_purge s mid unused running t b = absurd (cc b.is_of)

@@ -255,13 +255,5 @@ keeps_resync s mid free queued next event old new before after first second is g
 pub begun_resync : {D : Type 0} → (s : StoreValue D) (mid : Option History) → s.stopped ≡ false → (t : Task) → BeginsTask request.Resync t → StandsResync s mid t s mid
 begun_resync s mid running (task.Resync t) b = (running, subst (λ (now : ResyncAt). AtResync s mid now s mid) (sym b.at) (refl, refl))
 begun_resync s mid running (task.Ops t) b = b.is_of
-begun_resync s mid running (task.Counts t) b = absurd (cc b.is_of)
-begun_resync s mid running (task.Make t) b = absurd (cc b.is_of)
-begun_resync s mid running (task.Copy t) b = absurd (cc b.is_of)
-begun_resync s mid running (task.Expunge t) b = absurd (cc b.is_of)
-begun_resync s mid running (task.Move t) b = absurd (cc b.is_of)
-begun_resync s mid running (task.Fetch t) b = absurd (cc b.is_of)
-begun_resync s mid running (task.Purge t) b = absurd (cc b.is_of)
-begun_resync s mid running (task.Delete t) b = absurd (cc b.is_of)
-begun_resync s mid running (task.Rename t) b = absurd (cc b.is_of)
 begun_resync s mid running (task.Deliver t) b = absurd b.is_of
+begun_resync s mid running t b = absurd (cc b.is_of)

@@ -28,7 +28,7 @@ nothing_alone_of words rest after space none (request.Deliver name time message)
 nothing_alone_of words rest after space none (request.List name) is = space (codes "list") (name_word name) is.words_are
 nothing_alone_of words rest after space none (request.Fetch name uid) is = space (codes "fetch") (name_word name ++ 32 ∷ decimal_text uid.0) is.words_are
 nothing_alone_of words rest after space none (request.Flag name uid flags) is = space (codes "flag") (name_word name ++ 32 ∷ (decimal_text uid.0 ++ 32 ∷ decimal_text flags)) is.words_are
-nothing_alone_of words rest after space none (request.Keywords name uid words) is = space (codes "keywords") (name_word name ++ 32 ∷ (decimal_text uid.0 ++ 32 ∷ spaced (decimal_text (length words) ∷ words))) is.words_are
+nothing_alone_of words rest after space none (request.Keywords name uid keywords) is = space (codes "keywords") (name_word name ++ 32 ∷ (decimal_text uid.0 ++ 32 ∷ spaced (decimal_text (length keywords) ∷ keywords))) is.words_are
 nothing_alone_of words rest after space none (request.Copy name uid target) is = space (codes "copy") (name_word name ++ 32 ∷ (decimal_text uid.0 ++ 32 ∷ name_word target)) is.words_are
 nothing_alone_of words rest after space none (request.Move name uid target) is = space (codes "move") (name_word name ++ 32 ∷ (decimal_text uid.0 ++ 32 ∷ name_word target)) is.words_are
 nothing_alone_of words rest after space none (request.Expunge name uid) is = space (codes "expunge") (name_word name ++ 32 ∷ decimal_text uid.0) is.words_are
@@ -49,7 +49,7 @@ nothing_unknown_of words word arguments rest after e clear none (request.Deliver
 nothing_unknown_of words word arguments rest after e clear none (request.List name) is = none verb.List (until_same 32 word (codes "list") arguments (name_word name) clear refl (sym e ∙ is.words_are)).0
 nothing_unknown_of words word arguments rest after e clear none (request.Fetch name uid) is = none verb.Fetch (until_same 32 word (codes "fetch") arguments (name_word name ++ 32 ∷ decimal_text uid.0) clear refl (sym e ∙ is.words_are)).0
 nothing_unknown_of words word arguments rest after e clear none (request.Flag name uid flags) is = none verb.Flag (until_same 32 word (codes "flag") arguments (name_word name ++ 32 ∷ (decimal_text uid.0 ++ 32 ∷ decimal_text flags)) clear refl (sym e ∙ is.words_are)).0
-nothing_unknown_of words word arguments rest after e clear none (request.Keywords name uid words) is = none verb.Keywords (until_same 32 word (codes "keywords") arguments (name_word name ++ 32 ∷ (decimal_text uid.0 ++ 32 ∷ spaced (decimal_text (length words) ∷ words))) clear refl (sym e ∙ is.words_are)).0
+nothing_unknown_of words word arguments rest after e clear none (request.Keywords name uid keywords) is = none verb.Keywords (until_same 32 word (codes "keywords") arguments (name_word name ++ 32 ∷ (decimal_text uid.0 ++ 32 ∷ spaced (decimal_text (length keywords) ∷ keywords))) clear refl (sym e ∙ is.words_are)).0
 nothing_unknown_of words word arguments rest after e clear none (request.Copy name uid target) is = none verb.Copy (until_same 32 word (codes "copy") arguments (name_word name ++ 32 ∷ (decimal_text uid.0 ++ 32 ∷ name_word target)) clear refl (sym e ∙ is.words_are)).0
 nothing_unknown_of words word arguments rest after e clear none (request.Move name uid target) is = none verb.Move (until_same 32 word (codes "move") arguments (name_word name ++ 32 ∷ (decimal_text uid.0 ++ 32 ∷ name_word target)) clear refl (sym e ∙ is.words_are)).0
 nothing_unknown_of words word arguments rest after e clear none (request.Expunge name uid) is = none verb.Expunge (until_same 32 word (codes "expunge") arguments (name_word name ++ 32 ∷ decimal_text uid.0) clear refl (sym e ∙ is.words_are)).0

@@ -30,7 +30,7 @@ second false b h = cc h
 
 -- ---- the cut
 
-other_at : (mark c : ℕ) → ((c == mark) ≡ true → ⊥) → IsTrue (is_other_than mark c)
+pub other_at : (mark c : ℕ) → ((c == mark) ≡ true → ⊥) → IsTrue (is_other_than mark c)
 other_at mark c h = by_test (c == mark) h
   where
     by_test : (b : Bool) → (b ≡ true → ⊥) → IsTrue (not b)

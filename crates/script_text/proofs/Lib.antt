@@ -5,4 +5,5 @@ pub mod MadeLemmas
 pub mod NeedLemmas
 pub mod RequestLemmas
 pub mod ScriptLemmas
+pub mod SpacedLemmas
 pub mod TakeLemmas

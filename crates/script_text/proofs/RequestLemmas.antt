@@ -1,5 +1,5 @@
 -- Requests of a script have one text each, and none begins another.
-use Rattle.std.specs.Prelude.{◌≡◌, ◌≢◌, ◌<◌, ◌≤◌, ◌+◌, ◌*◌, ◌^◌, ℕ, List, [], ◌∷◌, ◌++◌, length, codes, drop, false, nat_eq, IsTrue, ◌⊎◌, refl}
+use Rattle.std.specs.Prelude.{◌≡◌, ◌<◌, ◌+◌, ◌*◌, ◌^◌, ℕ, List, [], ◌∷◌, ◌++◌, length, drop, false, nat_eq, IsTrue, refl}
 use Rattle.std.specs.List.{list_all}
 use Rattle.std.proofs.Common.{sym, ◌∙◌, ap, arith, append_assoc, append-nil}
 use Rattle.std.proofs.lemmas.Bool.{eqb-false}
@@ -11,6 +11,7 @@ use Rattle.mdbox_base.specs.declared.requests.Request.{Request}
 use Rattle.mdbox_base.specs.declared.requests.Request.TheVariants as request
 use Rattle.script_text.specs.Script.{name_word, request_words, spaced, message_text, request_text, FitsScript, FitsLanes}
 use Rattle.script_text.proofs.CutLemmas.{until_same, all_both, printing_clear, number_clear, number_until, same_front}
+use Rattle.script_text.proofs.SpacedLemmas.{counted_clear, counted_same}
 
 -- ---- a line has no LF in it, and its lane and words are told apart
 
@@ -37,6 +38,7 @@ words_clear (request.Deliver name time message) p = name_and_clear name time (de
 words_clear (request.List name) p = name_clear name p
 words_clear (request.Fetch name uid) p = name_number_clear name uid.0 p.0 (small_uid uid.0 p.1)
 words_clear (request.Flag name uid flags) p = name_and_clear name uid.0 (decimal_text flags) p.0 (small_uid uid.0 p.1) (number_word flags (omega (arith, p.2)))
+words_clear (request.Keywords name uid words) p = name_and_clear name uid.0 (spaced (decimal_text (length words) ∷ words)) p.0 (small_uid uid.0 p.1) (counted_clear words p.2)
 words_clear (request.Copy name uid target) p = name_and_clear name uid.0 (name_word target) p.0 (small_uid uid.0 p.1) (name_clear target p.2)
 words_clear (request.Move name uid target) p = name_and_clear name uid.0 (name_word target) p.0 (small_uid uid.0 p.1) (name_clear target p.2)
 words_clear (request.Expunge name uid) p = name_number_clear name uid.0 p.0 (small_uid uid.0 p.1)
@@ -168,6 +170,13 @@ flag_same a b u v f g p q e =
     let bits : f ≡ g = decimal_injective f g (omega (arith, p.2)) (omega (arith, q.2)) r.2 in
     ap (λ (w : List ℕ). request.Flag w u f) r.0 ∙ ap (λ (w : ℕ). request.Flag b (record { 0 = w }) f) r.1 ∙ ap (λ (w : ℕ). request.Flag b v w) bits
 
+keywords_same : (a b : List ℕ) (u v : Uid) (f g : List (List ℕ)) → FitsScript (request.Keywords a u f) → FitsScript (request.Keywords b v g)
+    → name_word a ++ 32 ∷ (decimal_text u.0 ++ 32 ∷ spaced (decimal_text (length f) ∷ f)) ≡ name_word b ++ 32 ∷ (decimal_text v.0 ++ 32 ∷ spaced (decimal_text (length g) ∷ g)) → request.Keywords a u f ≡ request.Keywords b v g
+keywords_same a b u v f g p q e =
+    let r = uid_then a b u v (spaced (decimal_text (length f) ∷ f)) (spaced (decimal_text (length g) ∷ g)) p.0 q.0 p.1 q.1 e in
+    let words : f ≡ g = counted_same f g p.2 q.2 r.2 in
+    ap (λ (w : List ℕ). request.Keywords w u f) r.0 ∙ ap (λ (w : ℕ). request.Keywords b (record { 0 = w }) f) r.1 ∙ ap (λ (w : List (List ℕ)). request.Keywords b v w) words
+
 copy_same : (a b : List ℕ) (u v : Uid) (s t : List ℕ) → FitsScript (request.Copy a u s) → FitsScript (request.Copy b v t)
     → name_word a ++ 32 ∷ (decimal_text u.0 ++ 32 ∷ name_word s) ≡ name_word b ++ 32 ∷ (decimal_text v.0 ++ 32 ∷ name_word t) → request.Copy a u s ≡ request.Copy b v t
 copy_same a b u v s t p q e =
@@ -193,6 +202,7 @@ asked_same (request.Deliver a t m) (request.Deliver b u n) x y p q e f = deliver
 asked_same (request.List a) (request.List b) x y p q e f = (ap (λ (w : List ℕ). request.List w) (name_alone_same a b p q (ap (drop 5) e)), f)
 asked_same (request.Fetch a u) (request.Fetch b v) x y p q e f = (fetch_same a b u v p q (ap (drop 6) e), f)
 asked_same (request.Flag a u g) (request.Flag b v h) x y p q e f = (flag_same a b u v g h p q (ap (drop 5) e), f)
+asked_same (request.Keywords a u g) (request.Keywords b v h) x y p q e f = (keywords_same a b u v g h p q (ap (drop 9) e), f)
 asked_same (request.Copy a u s) (request.Copy b v t) x y p q e f = (copy_same a b u v s t p q (ap (drop 5) e), f)
 asked_same (request.Move a u s) (request.Move b v t) x y p q e f = (move_same a b u v s t p q (ap (drop 5) e), f)
 asked_same (request.Expunge a u) (request.Expunge b v) x y p q e f = (expunge_same a b u v p q (ap (drop 8) e), f)

@@ -14,7 +14,8 @@ use Rattle.mdbox_base.specs.declared.requests.Request.TheVariants as request
 use Rattle.script_text.specs.Script.{BeginsNoRequest, FitsLanes, FitsScript, message_text, name_word, request_text, request_words, spaced}
 use Rattle.script_text.specs.Taking.{HasNoLf, IsLineTaken, OfSource, TakesUpTo, request_line}
 use Rattle.script_text.proofs.CutLemmas.{no_cut}
-use Rattle.script_text.proofs.RequestLemmas.{differ, lane_first, laid_out, name_then, number_then, parts_of, short_name, small_uid}
+use Rattle.script_text.proofs.SpacedLemmas.{counted_short}
+use Rattle.script_text.proofs.RequestLemmas.{differ, lane_first, name_then, number_then, parts_of, short_name, small_uid}
 
 -- ---- no line is long
 
@@ -27,14 +28,21 @@ name_short name n = let k = n.short in let h = number_short (length name) (omega
 two_short : (a b : List ℕ) (m n : ℕ) → length a ≤ m → length b ≤ n → length (a ++ 32 ∷ b) ≤ m + n + 1
 two_short a b m n p q = let l = length-append a (32 ∷ b) in omega (arith, p, q, l)
 
-words_short : (asked : Request) → FitsScript asked → length (spaced (request_words asked)) ≤ 600
-words_short (request.Deliver name time message) p =
+deliver_short : (name : List ℕ) (time : ℕ) (message : List ℕ) → FitsScript (request.Deliver name time message) → length (spaced (request_words (request.Deliver name time message))) ≤ 600
+deliver_short name time message p =
     let h = two_short (name_word name) (decimal_text time ++ 32 ∷ decimal_text (length message)) 276 41 (name_short name p.0) (two_short (decimal_text time) (decimal_text (length message)) 20 20 (number_short time p.1) (number_short (length message) (omega (arith, p.2)))) in
     omega (arith, h)
+
+words_short : (asked : Request) → FitsScript asked → length (spaced (request_words asked)) ≤ 3000
+words_short (request.Deliver name time message) p = let h = deliver_short name time message p in omega (arith, h)
 words_short (request.List name) p = let h = name_short name p in omega (arith, h)
 words_short (request.Fetch name uid) p = let h = two_short (name_word name) (decimal_text uid.0) 276 20 (name_short name p.0) (number_short uid.0 (small_uid uid.0 p.1)) in omega (arith, h)
 words_short (request.Flag name uid flags) p =
     let h = two_short (name_word name) (decimal_text uid.0 ++ 32 ∷ decimal_text flags) 276 41 (name_short name p.0) (two_short (decimal_text uid.0) (decimal_text flags) 20 20 (number_short uid.0 (small_uid uid.0 p.1)) (number_short flags (omega (arith, p.2)))) in
+    omega (arith, h)
+words_short (request.Keywords name uid words) p =
+    let n = number_short (length words) (let few = p.2.few in omega (arith, few)) in
+    let h = two_short (name_word name) (decimal_text uid.0 ++ 32 ∷ spaced (decimal_text (length words) ∷ words)) 276 2121 (name_short name p.0) (two_short (decimal_text uid.0) (spaced (decimal_text (length words) ∷ words)) 20 2100 (number_short uid.0 (small_uid uid.0 p.1)) (counted_short words p.2 n)) in
     omega (arith, h)
 words_short (request.Copy name uid target) p =
     let h = two_short (name_word name) (decimal_text uid.0 ++ 32 ∷ name_word target) 276 297 (name_short name p.0) (two_short (decimal_text uid.0) (name_word target) 20 276 (number_short uid.0 (small_uid uid.0 p.1)) (name_short target p.2)) in
@@ -53,9 +61,25 @@ words_short (request.Rename name target) p = let h = two_short (name_word name) 
 pub line_short : (lanes : ℕ) (asked : ℕ × Request) → lanes < 2 ^ 32 → FitsLanes lanes asked → length (request_line asked) ≤ 4096
 line_short lanes asked small fits =
     let last = fits.last in
-    let h = two_short (decimal_text asked.0) (spaced (request_words asked.1)) 20 600 (number_short asked.0 (omega (arith, small, last))) (words_short asked.1 fits.fits) in
+    let h = two_short (decimal_text asked.0) (spaced (request_words asked.1)) 20 3000 (number_short asked.0 (omega (arith, small, last))) (words_short asked.1 fits.fits) in
     let same : length (request_line asked) ≡ length (decimal_text asked.0 ++ 32 ∷ spaced (request_words asked.1)) = ap length (lane_first asked.0 asked.1) in
     omega (arith, h, same)
+
+-- words and a message
+text_short : (asked : Request) → FitsScript asked → length (spaced (request_words asked)) + length (message_text asked) ≤ 67109500
+text_short (request.Deliver name time message) p = let h = deliver_short name time message p in let few = p.2 in let l = length-append message (10 ∷ []) in omega (arith, h, few, l)
+text_short other p = let h = words_short other p in omega (arith, h)
+
+-- no request is long
+pub request_short : (lanes : ℕ) (asked : ℕ × Request) → lanes < 2 ^ 32 → FitsLanes lanes asked → length (request_text asked) ≤ 67110000
+request_short lanes asked small fits =
+    let last = fits.last in
+    let n = number_short asked.0 (omega (arith, small, last)) in
+    let h = text_short asked.1 fits.fits in
+    let l = length-append (decimal_text asked.0) (32 ∷ spaced (request_words asked.1)) in
+    let same : length (request_line asked) ≡ length (decimal_text asked.0 ++ 32 ∷ spaced (request_words asked.1)) = ap length (lane_first asked.0 asked.1) in
+    let whole = length-append (request_line asked) (10 ∷ message_text asked.1) in
+    omega (arith, n, h, l, same, whole)
 
 -- ---- a front of a text
 

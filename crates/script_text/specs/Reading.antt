@@ -1,5 +1,5 @@
 -- What is found of a request in the words of a line and what follows the line.
-use Rattle.std.specs.Prelude.{◌≡◌, ◌≤◌, ◌<◌, ◌^◌, ℕ, List, [], ◌∷◌, ◌++◌, length, All, IsTrue, codes}
+use Rattle.std.specs.Prelude.{◌≡◌, ◌≤◌, ◌<◌, ◌^◌, ℕ, List, [], ◌∷◌, ◌++◌, flat_map, All, IsTrue, codes}
 use Rattle.std.specs.List.{list_all}
 use Rattle.mdbox_base.specs.Numbers.{decimal_text}
 use Rattle.mdbox_base.specs.Words.{IsName, is_other_than}
@@ -42,9 +42,18 @@ verb_text verb.Make = codes "make"
 verb_text verb.Delete = codes "delete"
 verb_text verb.Rename = codes "rename"
 
--- words without a space in them, of which the text consists, a space between any two
+-- each of the words behind one space
+abbrev pub each_spaced : List (List ℕ) → List ℕ
+each_spaced words = flat_map (λ word. 32 ∷ word) words
+
+-- the text is these words, which have no space in them, each behind one space
 abbrev pub AreTextsOf : List (List ℕ) → List ℕ → Type 0
-AreTextsOf texts text = (1 ≤ length texts) × All (λ word. IsTrue (list_all (is_other_than 32) word)) texts × (text ≡ spaced texts)
+AreTextsOf texts text = All (λ word. IsTrue (list_all (is_other_than 32) word)) texts × (text ≡ each_spaced texts)
+
+-- the text is at its end, or begins with a space
+abbrev pub IsAtSpace : List ℕ → Type 0
+IsAtSpace [] = Unit {0}
+IsAtSpace (octet ∷ text) = octet ≡ 32
 
 -- a request has the verb in front of the text
 abbrev pub BeginsVerb : List ℕ → Type 0

@@ -3,20 +3,14 @@ ghost use Rattle.std.specs.Prelude.{◌≡◌, ◌≢◌, ◌≤◌, ◌<◌, �
 ghost use Rattle.mdbox_base.specs.Keywords.{AreWords};
 ghost use Rattle.mdbox_base.specs.Numbers.{decimal_text};
 ghost use Rattle.mdbox_base.specs.Words.{IsNumber, IsName};
-ghost use Rattle.script_text.specs.Reading.{AreTextsOf};
 ghost use Rattle.script_text.specs.Script.{name_word, spaced};
 ghost use Rattle.script_text.specs.declared.error.Flaw.TheVariants as flaw;
 
 use crate::cut::cut;
 use crate::error::Flaw;
-use mdbox_base::{
-    Flags, Name, NoMemory, Octets, Seq, Uid, Words, are_words, flags_of, is_number, name_of,
-    read_decimal,
-};
+use crate::keywords::counted_words;
+use mdbox_base::{Flags, Name, Uid, Words, flags_of, is_number, name_of, read_decimal};
 use std::alloc::Global;
-
-/// How many keywords a message has at most.
-const MOST_KEYWORDS: usize = 32;
 
 /// The name that a word is.
 pub fn name_alone(alloc: Global, word: &[u8]) -> Result<Name, Flaw>
@@ -159,58 +153,6 @@ fn flags_from(word: &[u8]) -> Option<Flags>
 {
     let bits = u8::try_from(read_decimal(word)?).ok()?;
     flags_of(bits)
-}
-
-/// The keywords behind their number.
-fn counted_words(alloc: Global, words: &[u8]) -> Result<Words, Flaw>
-    ensures found { IfOk result (λ keywords. AreWords keywords × (words.now ≡ spaced (decimal_text (length keywords) ∷ keywords))) }
-    ensures bad { IsErrOf result flaw.Bad → (keywords : List (List ℕ)) → AreWords keywords → words.now ≢ spaced (decimal_text (length keywords) ∷ keywords) }
-{
-    let (number, rest) = match cut(words, b' ') {
-        Some((number, rest)) => (number, Some(rest)),
-        None => (words, None),
-    };
-    let Some(count) = read_decimal(number) else {
-        return Err(Flaw::Bad);
-    };
-    let texts = match rest {
-        Some(rest) => texts_of(alloc, rest)?,
-        None => Seq::empty(alloc),
-    };
-    if texts.length() as u64 != count || !are_words(texts.as_slice()) {
-        return Err(Flaw::Bad);
-    }
-    Ok(Words::of(texts))
-}
-
-/// The words of a text, between any two of which one space stands. More than 32 are too many.
-fn texts_of(alloc: Global, text: &[u8]) -> Result<Seq<Octets>, Flaw>
-    ensures found { IfOk result (λ texts. AreTextsOf texts text.now) }
-    ensures bad { IsErrOf result flaw.Bad → (texts : List (List ℕ)) → length texts ≤ 32 → AreTextsOf texts text.now → ⊥ }
-{
-    let mut texts = Seq::empty(alloc);
-    let mut left = Some(text);
-    while let Some(words) = left {
-        if texts.length() == MOST_KEYWORDS {
-            return Err(Flaw::Bad);
-        }
-        let (word, behind) = match cut(words, b' ') {
-            Some((word, behind)) => (word, Some(behind)),
-            None => (words, None),
-        };
-        texts.push(octets_of(alloc, word)?)?;
-        left = behind;
-    }
-    Ok(texts)
-}
-
-/// A copy of octets.
-fn octets_of(alloc: Global, octets: &[u8]) -> Result<Octets, NoMemory>
-    ensures { IfOk result (λ copy. copy ≡ octets.now) }
-{
-    let mut copy = Octets::empty(alloc);
-    copy.push_all(octets)?;
-    Ok(copy)
 }
 
 /// The octets of the name word in front, and what follows it. Whether they are a name isn't looked at.

@@ -14,6 +14,7 @@ mod cut;
 mod error;
 mod exercise;
 mod flaw;
+mod keywords;
 mod laws;
 mod read;
 mod request;

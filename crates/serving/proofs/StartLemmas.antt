@@ -21,7 +21,7 @@ use Rattle.serving.proofs.LaneLemmas.{waits_in}
 
 -- ---- no replies
 
-none_given : (script : Requests) (i : ℕ) (given : Reply) → HasReply (unreplied script) i given → ⊥
+pub none_given : (script : Requests) (i : ℕ) (given : Reply) → HasReply (unreplied script) i given → ⊥
 none_given [] i given h = let z : None ≡ Some (Some given) = h in cc z
 none_given (asked ∷ more) zero given h = let z : Some None ≡ Some (Some given) = h in cc z
 none_given (asked ∷ more) (suc i) given h = none_given more i given h

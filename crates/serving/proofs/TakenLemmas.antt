@@ -24,7 +24,7 @@ use Rattle.serving.proofs.ServingLemmas.{all_at, some_at}
 -- ---- lists
 
 -- what passes a test somewhere
-found_at : {X : Type 0} → (test : X → Bool) (xs : List X) → list_any test xs ≡ true → (n : ℕ) × (x : X) × (slice_get xs n ≡ Some x) × (test x ≡ true)
+pub found_at : {X : Type 0} → (test : X → Bool) (xs : List X) → list_any test xs ≡ true → (n : ℕ) × (x : X) × (slice_get xs n ≡ Some x) × (test x ≡ true)
 found_at test [] e = absurd (let z : false ≡ true = e in cc z)
 found_at {X} test (a ∷ more) e = by_test (test a) refl (found_at test more)
   where
@@ -37,7 +37,7 @@ found_at {X} test (a ∷ more) e = by_test (test a) refl (found_at test more)
     by_test false t rest = let r = rest (or_false (test a) (list_any test more) t e) in (suc r.0, r.1, r.2, r.3)
 
 -- and among those that pass another one
-any_kept : {X : Type 0} → (keep test : X → Bool) (xs : List X) (n : ℕ) (x : X) → slice_get xs n ≡ Some x → keep x ≡ true → test x ≡ true → list_any test (filter keep xs) ≡ true
+pub any_kept : {X : Type 0} → (keep test : X → Bool) (xs : List X) (n : ℕ) (x : X) → slice_get xs n ≡ Some x → keep x ≡ true → test x ≡ true → list_any test (filter keep xs) ≡ true
 any_kept keep test [] n x there k t = absurd (let z : None ≡ Some x = there in cc z)
 any_kept {X} keep test (a ∷ more) zero x there k t = kept (one_some a x there)
   where
@@ -61,7 +61,7 @@ any_kept keep test (a ∷ more) (suc n) x there k t = by_keep (keep a) refl (any
 has_some : (file : ℕ) (own : List RunEvent) → list_any (took_file file) own ≡ true → own ≡ [] → ⊥
 has_some file own any none = let z : false ≡ true = sym (ap (list_any (took_file file)) none) ∙ any in cc z
 
-waiting_none : (script : Requests) (run : Run) (lane place : ℕ) (rest : List ℕ) (i : ℕ) → AreBehind script run lane place rest → Contains rest i → own_events i run ≡ []
+pub waiting_none : (script : Requests) (run : Run) (lane place : ℕ) (rest : List ℕ) (i : ℕ) → AreBehind script run lane place rest → Contains rest i → own_events i run ≡ []
 waiting_none script run lane place [] i behind is = absurd (none_waits i is)
 waiting_none script run lane place (next ∷ rest) i behind is = by_case (waiting_none script run lane next rest i behind.3) (first_or_behind next rest i is)
   where
@@ -71,7 +71,7 @@ waiting_none script run lane place (next ∷ rest) i behind is = by_case (waitin
 
 -- ---- claims
 
-one_of_all : {T : Type 0} → (claims : T → Claims) (lanes : List (LaneValue T)) (k : ℕ) (value : LaneValue T) (thing : Thing) → slice_get lanes k ≡ Some value → lane_claims claims value thing ≤ total_claims (map (lane_claims claims) lanes) thing
+pub one_of_all : {T : Type 0} → (claims : T → Claims) (lanes : List (LaneValue T)) (k : ℕ) (value : LaneValue T) (thing : Thing) → slice_get lanes k ≡ Some value → lane_claims claims value thing ≤ total_claims (map (lane_claims claims) lanes) thing
 one_of_all claims [] k value thing there = absurd (let z : None ≡ Some value = there in cc z)
 one_of_all claims (a ∷ more) zero value thing there =
     let same : lane_claims claims a thing ≡ lane_claims claims value thing = ap (λ (v : LaneValue _). lane_claims claims v thing) (one_some a value there) in

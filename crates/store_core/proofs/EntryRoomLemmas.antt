@@ -12,7 +12,7 @@ room_more v log more r = record { map_log = let has : entry_room ≤ v.map_log.r
 
 holds_roomier : (log : LogState) (room : ℕ) (entries : List (List ℕ)) (h : Option History) → Holds log entries h → Holds (record log { room = room }) entries h
 holds_roomier log room entries h = if_told-map (IsLogHeld log entries) (IsLogHeld (record log { room = room }) entries) h
-    (λ disk l. record { reads = record { file = l.reads.file; end = l.reads.end; head_fits = l.reads.head_fits; entries_fit = l.reads.entries_fit }; keeps = l.keeps })
+    (λ disk l. record { reads = record { file = l.reads.file; end = l.reads.end; count = l.reads.count; head_fits = l.reads.head_fits; entries_fit = l.reads.entries_fit }; keeps = l.keeps })
 
 pub adds_roomier : (log roomy : LogState) (text : List ℕ) (old new : Option History) → roomy ≡ record log { room = roomy.room } → AddsText roomy text old new → AddsText log text old new
 adds_roomier log roomy text old new same adds = λ entries held. subst (λ (l : LogState). AddsText l text old new) same adds entries (holds_roomier log roomy.room entries old held)

@@ -148,7 +148,7 @@ settled_besides h i a b lists own same s unnamed =
 
 reads_on : (h i : List ℕ) (log : LogState) (entries : List (List ℕ)) (old new : Option History) → SameButFor (file.Inst h i) old new → log.name ≢ file.Inst h i → Reads log entries old → Reads log entries new
 reads_on h i log entries old new same apart r =
-    between-on (SameBesides h i) (IsLogRead log entries) (IsLogRead log entries) old new (λ a b c l. record { file = besides_reads h i a b log.name c apart ∙ l.file; end = l.end; head_fits = l.head_fits; entries_fit = l.entries_fit }) same r
+    between-on (SameBesides h i) (IsLogRead log entries) (IsLogRead log entries) old new (λ a b c l. record { file = besides_reads h i a b log.name c apart ∙ l.file; end = l.end; count = l.count; head_fits = l.head_fits; entries_fit = l.entries_fit }) same r
 
 boxes_on : (h i : List ℕ) (store : List ℕ) (mailboxes : List MapBox) (boxes : List OpenBox) (logs : List (List BoxEntry)) (old new : Option History) → SameButFor (file.Inst h i) old new → AreBoxLogs store mailboxes boxes → ReadBoxLogs old boxes logs → ReadBoxLogs new boxes logs
 boxes_on h i store [] [] [] old new same a r = tt

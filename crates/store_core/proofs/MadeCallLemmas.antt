@@ -33,14 +33,14 @@ room_same v w log boxes r = record {
 
 -- ---- one that was made
 
-pub logged_as : (log : LogState) (id store : List ℕ) (n : ℕ) → log ≡ record { name = file.Box n 1; head = head_of id kind.Box n 1; end = 25; room = 0 } → id ≡ store → log ≡ record { name = file.Box n 1; head = head_of store kind.Box n 1; end = 25; room = 0 }
-logged_as log id store n is same = is ∙ ap (λ (i : List ℕ). record { name = file.Box n 1; head = head_of i kind.Box n 1; end = 25; room = 0 }) same
+pub logged_as : (log : LogState) (id store : List ℕ) (n : ℕ) → log ≡ record { name = file.Box n 1; head = head_of id kind.Box n 1; end = 25; count = 0; room = 0 } → id ≡ store → log ≡ record { name = file.Box n 1; head = head_of store kind.Box n 1; end = 25; count = 0; room = 0 }
+logged_as log id store n is same = is ∙ ap (λ (i : List ℕ). record { name = file.Box n 1; head = head_of i kind.Box n 1; end = 25; count = 0; room = 0 }) same
 
 roomier_held : (a : LogState) (room : ℕ) (h : Option History) → Holds a [] h → Holds (record a { room = room }) [] h
-roomier_held a room h = if_told-map (IsLogHeld a []) (IsLogHeld (record a { room = room }) []) h (λ disk l. record { reads = record { file = l.reads.file; end = l.reads.end; head_fits = l.reads.head_fits; entries_fit = l.reads.entries_fit }; keeps = l.keeps })
+roomier_held a room h = if_told-map (IsLogHeld a []) (IsLogHeld (record a { room = room }) []) h (λ disk l. record { reads = record { file = l.reads.file; end = l.reads.end; count = l.reads.count; head_fits = l.reads.head_fits; entries_fit = l.reads.entries_fit }; keeps = l.keeps })
 
 pub created : {D : Type 0} → (old new : Option History) (v w : StoreValue D) (b : OpenBox) (log : LogState) (room n : ℕ) → KeepsMadeLogs old v → v.stopped ≡ false → w.made ≡ v.made ++ b ∷ [] → w.map ≡ v.map → w.drawn ≡ v.drawn
-    → IsNumber n → n ≤ v.drawn.mailbox → IsUnnamed n v.map → has_made_log n v ≡ false → b.number.0 ≡ n → log ≡ record { name = file.Box n 1; head = head_of v.map.store kind.Box n 1; end = 25; room = 0 } → b.log ≡ record log { room = max log.room room } → entry_room ≤ room
+    → IsNumber n → n ≤ v.drawn.mailbox → IsUnnamed n v.map → has_made_log n v ≡ false → b.number.0 ≡ n → log ≡ record { name = file.Box n 1; head = head_of v.map.store kind.Box n 1; end = 25; count = 0; room = 0 } → b.log ≡ record log { room = max log.room room } → entry_room ≤ room
     → b.index.meaning ≡ box_meaning [] → Holds log [] new → OthersAreNamed (file.Box n 1) old new → KeepsMadeLogs new w
 created old new v w b log room n k runs made same_map same_drawn number drawn unnamed none is logged roomy enough empty held others =
     let apart : All (λ (o : OpenBox). o.number.0 ≢ n) v.made = none_has n v.made none in

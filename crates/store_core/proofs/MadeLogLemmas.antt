@@ -18,7 +18,7 @@ IsHeldBy history open_box = Holds open_box.log [] history
 
 held_as : (log : LogState) (texts : List (List ℕ)) (a b : DiskState) → b log.name ≡ a log.name → IsLogHeld log texts a → IsLogHeld log texts b
 held_as log texts a b same h = record {
-  reads = record { file = ap reading same ∙ h.reads.file; end = h.reads.end; head_fits = h.reads.head_fits; entries_fit = h.reads.entries_fit };
+  reads = record { file = ap reading same ∙ h.reads.file; end = h.reads.end; count = h.reads.count; head_fits = h.reads.head_fits; entries_fit = h.reads.entries_fit };
   keeps = subst (λ (f : FileState). Keeps f (log_text log.head texts)) (sym same) h.keeps;
 }
 

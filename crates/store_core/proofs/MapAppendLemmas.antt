@@ -68,7 +68,7 @@ same_file_drawn (entry.V b n) drawn = refl
 -- a log that has more room is read as before
 pub read_roomier : (log : LogState) (room : ℕ) (entries : List (List ℕ)) (h : Option History) → Reads log entries h → Reads (record log { room = room }) entries h
 read_roomier log room entries None r = tt
-read_roomier log room entries (Some h) r = record { file = r.file; end = r.end; head_fits = r.head_fits; entries_fit = r.entries_fit }
+read_roomier log room entries (Some h) r = record { file = r.file; end = r.end; count = r.count; head_fits = r.head_fits; entries_fit = r.entries_fit }
 
 pub roomier : {D : Type 0} → (h : Option History) (v : StoreValue D) (room : ℕ) → IsStore h v → IsStore h (record v { map_log = record v.map_log { room = room } })
 roomier h v room s = record {

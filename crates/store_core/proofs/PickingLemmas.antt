@@ -110,7 +110,7 @@ indexes_kept (suc k) d x (b ∷ bs) i = ap (λ (vs : List BoxMeaning). b.index.m
 pub reads_other : (name : FileName) (log : LogState) (entries : List (List ℕ)) (old new : Option History) → SameButFor name old new → log.name ≢ name → Reads log entries old → Reads log entries new
 reads_other name log entries None new same apart r = subst (λ (h : Option History). Reads log entries h) (sym same) tt
 reads_other name log entries (Some old) None same apart r = absurd same
-reads_other name log entries (Some old) (Some new) same apart r = record { file = ap reading (same log.name apart) ∙ r.file; end = r.end; head_fits = r.head_fits; entries_fit = r.entries_fit }
+reads_other name log entries (Some old) (Some new) same apart r = record { file = ap reading (same log.name apart) ∙ r.file; end = r.end; count = r.count; head_fits = r.head_fits; entries_fit = r.entries_fit }
 
 apart_boxes : (k g l h : ℕ) → k ≢ l → file.Box k g ≢ file.Box l h
 apart_boxes k g l h apart e = apart (let p : file.Box k g ≡ file.Box l h = e in cc p)

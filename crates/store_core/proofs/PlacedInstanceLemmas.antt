@@ -195,7 +195,7 @@ placed_stored hash id old new change =
 reads_since : (hash id : List ℕ) (log : LogState) (entries : List (List ℕ)) (old new : Option History) → Between (FileMade (file.Inst hash id)) old new → log.name ≢ file.Inst hash id → Reads log entries old → Reads log entries new
 reads_since hash id log entries old new change apart r =
     between-on (FileMade (file.Inst hash id)) (IsLogRead log entries) (IsLogRead log entries) old new
-    (λ a b c i. record { file = reads_made (file.Inst hash id) log.name a b c apart ∙ i.file; end = i.end; head_fits = i.head_fits; entries_fit = i.entries_fit }) change r
+    (λ a b c i. record { file = reads_made (file.Inst hash id) log.name a b c apart ∙ i.file; end = i.end; count = i.count; head_fits = i.head_fits; entries_fit = i.entries_fit }) change r
 
 boxes_since : (hash id : List ℕ) (store : List ℕ) (mailboxes : List MapBox) (boxes : List OpenBox) (logs : List (List BoxEntry)) (old new : Option History) → Between (FileMade (file.Inst hash id)) old new → AreBoxLogs store mailboxes boxes → ReadBoxLogs old boxes logs → ReadBoxLogs new boxes logs
 boxes_since hash id store [] [] [] old new change a r = tt

@@ -117,7 +117,7 @@ settled_gone n a b lists own same s elsewhere =
 
 reads_gone : (n : ℕ) (log : LogState) (entries : List (List ℕ)) (old new : Option History) → Between (SameOthers n) old new → log.name ≢ file.Mail n → Reads log entries old → Reads log entries new
 reads_gone n log entries old new change apart r =
-    between-on (SameOthers n) (IsLogRead log entries) (IsLogRead log entries) old new (λ a b c i. record { file = other_reads n a b log.name c apart ∙ i.file; end = i.end; head_fits = i.head_fits; entries_fit = i.entries_fit }) change r
+    between-on (SameOthers n) (IsLogRead log entries) (IsLogRead log entries) old new (λ a b c i. record { file = other_reads n a b log.name c apart ∙ i.file; end = i.end; count = i.count; head_fits = i.head_fits; entries_fit = i.entries_fit }) change r
 
 boxes_gone : (n : ℕ) (store : List ℕ) (mailboxes : List MapBox) (boxes : List OpenBox) (logs : List (List BoxEntry)) (old new : Option History) → Between (SameOthers n) old new → AreBoxLogs store mailboxes boxes → ReadBoxLogs old boxes logs → ReadBoxLogs new boxes logs
 boxes_gone n store [] [] [] old new change a r = tt

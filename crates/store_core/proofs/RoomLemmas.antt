@@ -13,7 +13,7 @@ indexes_roomy (b ∷ bs) = ap (λ (ms : List BoxMeaning). b.index.meaning ∷ ms
 
 -- a log is read as before
 reads_roomy : (log : LogState) (entries : List (List ℕ)) (h : Option History) → Reads log entries h → Reads (roomy_log log) entries h
-reads_roomy log entries h = if_told-map (IsLogRead log entries) (IsLogRead (roomy_log log) entries) h (λ disk r. record { file = r.file; end = r.end; head_fits = r.head_fits; entries_fit = r.entries_fit })
+reads_roomy log entries h = if_told-map (IsLogRead log entries) (IsLogRead (roomy_log log) entries) h (λ disk r. record { file = r.file; end = r.end; count = r.count; head_fits = r.head_fits; entries_fit = r.entries_fit })
 
 logs_roomy : (store : List ℕ) (mailboxes : List MapBox) (boxes : List OpenBox) → AreBoxLogs store mailboxes boxes → AreBoxLogs store mailboxes (map roomy_box boxes)
 logs_roomy store [] [] a = tt

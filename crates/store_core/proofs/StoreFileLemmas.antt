@@ -80,7 +80,7 @@ stay_begun file_no old rows disk none absent stay = λ number f found grows ther
 
 reads_on : (n : ℕ) (log : LogState) (entries : List (List ℕ)) (old new : Option History) → Between (MailChange n) old new → log.name ≢ file.Mail n → Reads log entries old → Reads log entries new
 reads_on n log entries old new change apart r =
-    between-on (MailChange n) (IsLogRead log entries) (IsLogRead log entries) old new (λ a b c i. record { file = c.reads log.name apart ∙ i.file; end = i.end; head_fits = i.head_fits; entries_fit = i.entries_fit }) change r
+    between-on (MailChange n) (IsLogRead log entries) (IsLogRead log entries) old new (λ a b c i. record { file = c.reads log.name apart ∙ i.file; end = i.end; count = i.count; head_fits = i.head_fits; entries_fit = i.entries_fit }) change r
 
 boxes_on : (n : ℕ) (store : List ℕ) (mailboxes : List MapBox) (boxes : List OpenBox) (logs : List (List BoxEntry)) (old new : Option History) → Between (MailChange n) old new → AreBoxLogs store mailboxes boxes → ReadBoxLogs old boxes logs → ReadBoxLogs new boxes logs
 boxes_on n store [] [] [] old new change a r = tt

@@ -166,7 +166,7 @@ stored_then n gen old new change = between-map (IsBeside (file.Box n gen)) (λ a
 
 reads_beside : (n gen : ℕ) (log : LogState) (entries : List (List ℕ)) (old new : Option History) → Between (IsBeside (file.Box n gen)) old new → log.name ≢ file.Box n gen → Reads log entries old → Reads log entries new
 reads_beside n gen log entries old new change apart r =
-    between-on (IsBeside (file.Box n gen)) (IsLogRead log entries) (IsLogRead log entries) old new (λ a b c i. record { file = c.reads log.name apart ∙ i.file; end = i.end; head_fits = i.head_fits; entries_fit = i.entries_fit }) change r
+    between-on (IsBeside (file.Box n gen)) (IsLogRead log entries) (IsLogRead log entries) old new (λ a b c i. record { file = c.reads log.name apart ∙ i.file; end = i.end; count = i.count; head_fits = i.head_fits; entries_fit = i.entries_fit }) change r
 
 boxes_beside : (n gen : ℕ) (store : List ℕ) (mailboxes : List MapBox) (boxes : List OpenBox) (logs : List (List BoxEntry)) (old new : Option History) → Between (IsBeside (file.Box n gen)) old new → All (λ box. box.number ≢ n) mailboxes → AreBoxLogs store mailboxes boxes
     → ReadBoxLogs old boxes logs → ReadBoxLogs new boxes logs

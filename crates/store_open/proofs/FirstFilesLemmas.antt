@@ -122,7 +122,7 @@ is-made store log old new n h is p k = made-on (HasMapLog store) (IsLogHeld log 
 held-named : (log : LogState) (entries : List (List ℕ)) (name : FileName) → log.name ≢ name → (a b : DiskState) → ((other : FileName) → other ≢ name → b other ≡ named (a other)) → IsLogHeld log entries a → IsLogHeld log entries b
 held-named log entries name apart a b is k =
     let kept : Keeps (b log.name) (log_text log.head entries) = subst (λ (f : FileState). Keeps f (log_text log.head entries)) (sym (is log.name apart)) (named-kept (a log.name) (log_text log.head entries) k.keeps) in
-    record { reads = record { file = kept.reads; end = k.reads.end; head_fits = k.reads.head_fits; entries_fit = k.reads.entries_fit }; keeps = kept }
+    record { reads = record { file = kept.reads; end = k.reads.end; count = k.reads.count; head_fits = k.reads.head_fits; entries_fit = k.reads.entries_fit }; keeps = kept }
 
 pub holds-named : (log : LogState) (entries : List (List ℕ)) (own name : FileName) (old new : Option History) → log.name ≡ own → own ≢ name → NamedButFor name old new → Holds log entries old → Holds log entries new
 holds-named log entries own name old new e apart is k =

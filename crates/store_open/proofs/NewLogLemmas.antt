@@ -29,7 +29,7 @@ others-named name (Some old) (Some now) image named stay = λ other apart.
 
 -- the log with room for its entry
 abbrev empty_log : FileName → LogHead → ℕ → LogState
-empty_log name head room = record { name = name; head = head; end = 25; room = room }
+empty_log name head room = record { name = name; head = head; end = 25; count = 0; room = room }
 
 ready : (name : FileName) (head : LogHead) (made log : LogState) → made ≡ empty_log name head 0 → log ≡ record made { room = log.room } → log ≡ empty_log name head log.room
 ready name head made log is same = same ∙ ap (λ (l : LogState). record l { room = log.room }) is
@@ -37,7 +37,7 @@ ready name head made log is same = same ∙ ap (λ (l : LogState). record l { ro
 -- it is held, whatever its room
 pub ready-holds : (made log : LogState) (h : Option History) → log ≡ record made { room = log.room } → Holds made [] h → Holds log [] h
 ready-holds made log h same holds = subst (λ (l : LogState). Holds l [] h) (sym same) (if_told-map _ _ h (λ disk k. record {
-  reads = record { file = k.reads.file; end = k.reads.end; head_fits = k.reads.head_fits; entries_fit = k.reads.entries_fit };
+  reads = record { file = k.reads.file; end = k.reads.end; count = k.reads.count; head_fits = k.reads.head_fits; entries_fit = k.reads.entries_fit };
   keeps = k.keeps;
 }) holds)
 

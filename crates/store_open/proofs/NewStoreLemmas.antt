@@ -82,7 +82,7 @@ pub record HasNewLogs (store : List ℕ) (root_log map_log box_log : LogState) (
   pub map_name : map_log.name ≡ file.Map 1
   pub map_head_is : map_log.head ≡ new_map_head store
   pub box_held : Holds box_log [] new
-  pub box_is : box_log ≡ record { name = file.Box 1 1; head = inbox_head store; end = 25; room = 0 }
+  pub box_is : box_log ≡ record { name = file.Box 1 1; head = inbox_head store; end = 25; count = 0; room = 0 }
 
 -- logs that are opened, with this meaning and these mailboxes
 abbrev opened_with : {D : Type 0} → Global → D → OpenLogs → InstancesValue → MapMeaning → List OpenBox → StoreValue D

@@ -55,7 +55,7 @@ pub fn make_files<D: Disk>(alloc: Global, disk: &mut D, id: StoreId) -> Result<F
     ensures store { OnOk result (IfTold (D.history disk.new) (IsMadeStore id.0)) }
     ensures root_log { IfOk result (λ made. Holds made.root_log (root_text first_root ∷ []) (D.history disk.new) × (made.root_log.name ≡ file.Root) × (made.root_log.head ≡ new_root_head id.0)) }
     ensures map_log { IfOk result (λ made. Holds made.map_log (map_text first_box ∷ []) (D.history disk.new) × (made.map_log.name ≡ file.Map 1) × (made.map_log.head ≡ new_map_head id.0)) }
-    ensures box_log { IfOk result (λ made. Holds made.box_log [] (D.history disk.new) × (made.box_log ≡ record { name = file.Box 1 1; head = inbox_head id.0; end = 25; room = 0 })) }
+    ensures box_log { IfOk result (λ made. Holds made.box_log [] (D.history disk.new) × (made.box_log ≡ record { name = file.Box 1 1; head = inbox_head id.0; end = 25; count = 0; room = 0 })) }
 
     // Out of memory means that no store was made.
     ensures unmade { IsErrOf result OpenError.NoMemory → NeverHasStore (D.history disk.old) → NeverHasStore (D.history disk.new) }
@@ -85,7 +85,7 @@ fn make_logs<D: Disk>(
     ensures settled { OnOk result (IfTold (D.history disk.new) (λ now. IsSettled now empty_inbox)) }
     ensures root_log { IfOk result (λ made. Holds made.root_log (root_text first_root ∷ []) (D.history disk.new) × (made.root_log.name ≡ file.Root) × (made.root_log.head ≡ new_root_head id.0)) }
     ensures map_log { IfOk result (λ made. Holds made.map_log (map_text first_box ∷ []) (D.history disk.new) × (made.map_log.name ≡ file.Map 1) × (made.map_log.head ≡ new_map_head id.0)) }
-    ensures box_log { IfOk result (λ made. Holds made.box_log [] (D.history disk.new) × (made.box_log ≡ record { name = file.Box 1 1; head = inbox_head id.0; end = 25; room = 0 })) }
+    ensures box_log { IfOk result (λ made. Holds made.box_log [] (D.history disk.new) × (made.box_log ≡ record { name = file.Box 1 1; head = inbox_head id.0; end = 25; count = 0; room = 0 })) }
     ensures refused { IfErr result IsFaultOrMemory }
     // Out of memory means that no store was made.
     ensures unmade { IsErrOf result OpenError.NoMemory → NeverHasStore (D.history disk.old) → NeverHasStore (D.history disk.new) }
@@ -128,7 +128,7 @@ fn make_empty_log<D: Disk>(
     requires version { IsVersionOf head.kind head.version }
     ensures any_moment { EachImage (λ _ image. IfTold (D.history disk.old) (λ before. IsAtMostAsLong 26 (before name) (image name)) × OthersStay name (D.history disk.old) image) (D.history disk.old) (D.history disk.new) }
     ensures made { IfOk result (λ log. Holds log [] (D.history disk.new)) }
-    ensures log { IfOk result (λ log. log ≡ record { name = name; head = head; end = 25; room = 0 }) }
+    ensures log { IfOk result (λ log. log ≡ record { name = name; head = head; end = 25; count = 0; room = 0 }) }
     ensures others { OnOk result (NamedButFor name (D.history disk.old) (D.history disk.new)) }
     ensures fault { ChangeFaultCounted (IsErr result) (D.faults disk.old) (D.faults disk.new) }
     ensures unfailed { OnOk result (NoFault (D.faults disk.old) (D.faults disk.new)) }
@@ -154,7 +154,7 @@ fn make_log<D: Disk>(
     ensures others { OnOk result (NamedButFor name (D.history disk.old) (D.history disk.new)) }
     ensures refused { IfErr result IsFaultOrMemory }
     // Out of memory, the log is made, and has no entry yet.
-    ensures unmade { IsErrOf result OpenError.NoMemory → Holds (record { name = name; head = head; end = 25; room = 0 }) [] (D.history disk.new) × NamedButFor name (D.history disk.old) (D.history disk.new) }
+    ensures unmade { IsErrOf result OpenError.NoMemory → Holds (record { name = name; head = head; end = 25; count = 0; room = 0 }) [] (D.history disk.new) × NamedButFor name (D.history disk.old) (D.history disk.new) }
     ensures fault { ChangeFaultCounted (IsErrOf result OpenError.DiskFault) (D.faults disk.old) (D.faults disk.new) }
     ensures unfailed { (IsErrOf result OpenError.DiskFault → ⊥) → NoFault (D.faults disk.old) (D.faults disk.new) }
 {

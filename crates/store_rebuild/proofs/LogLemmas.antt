@@ -33,7 +33,7 @@ others_named name (Some old) (Some now) image named stay = λ other apart.
 
 -- the log with room for its entries
 abbrev empty_log : FileName → LogHead → ℕ → LogState
-empty_log name head room = record { name = name; head = head; end = 25; room = room }
+empty_log name head room = record { name = name; head = head; end = 25; count = 0; room = room }
 
 roomy : (name : FileName) (head : LogHead) (made log : LogState) (room : ℕ) → made ≡ empty_log name head 0 → log ≡ record made { room = max made.room room } → log ≡ empty_log name head log.room
 roomy name head made log room is same = same ∙ ap (λ (l : LogState). record l { room = max made.room room }) is ∙ ap (λ (n : ℕ). empty_log name head n) (sym (ap (λ (l : LogState). l.room) same))
@@ -41,7 +41,7 @@ roomy name head made log room is same = same ∙ ap (λ (l : LogState). record l
 -- it is held, whatever its room
 pub roomy_holds : (made log : LogState) (room : ℕ) (h : Option History) → log ≡ record made { room = max made.room room } → Holds made [] h → Holds log [] h
 roomy_holds made log room h same holds = subst (λ (l : LogState). Holds l [] h) (sym same) (if_told-map _ _ h (λ disk k. record {
-  reads = record { file = k.reads.file; end = k.reads.end; head_fits = k.reads.head_fits; entries_fit = k.reads.entries_fit };
+  reads = record { file = k.reads.file; end = k.reads.end; count = k.reads.count; head_fits = k.reads.head_fits; entries_fit = k.reads.entries_fit };
   keeps = k.keeps;
 }) holds)
 

@@ -74,6 +74,7 @@ own_outside m done log next = not_from_false (list_any (λ (other : InspectedLog
 
 found_along : (log : InspectedLog) (entries : List (List ℕ)) (old new : DiskState) → new log.name ≡ old log.name → IsFound log entries old → IsFound log entries new
 found_along log entries old new e h = record {
+  count = h.count;
   rest = h.rest;
   behind = h.behind;
   stands = record { reads = ap reading e ∙ h.stands.reads; end_is = h.stands.end_is; head_fits = h.stands.head_fits; entries_fit = h.stands.entries_fit; ends = h.stands.ends };
@@ -81,6 +82,7 @@ found_along log entries old new e h = record {
 
 kept_along : (log : InspectedLog) (entries : List (List ℕ)) (old new : DiskState) → new log.name ≡ old log.name → IsFoundKept log entries old → IsFoundKept log entries new
 kept_along log entries old new e h = record {
+  count = h.count;
   rest = h.rest;
   behind = h.behind;
   kept = record {
@@ -212,7 +214,7 @@ whole_done done left logs m none long whole =
     let e : left ≡ [] = nothing_left left (sym none ∙ long) in
     sym (append-nil done) ∙ ap (λ (xs : List _). done ++ xs) (sym e) ∙ whole
 
-pub made_repaired : (old new : Option History) (log : InspectedLog) (gate : LogState) → gate ≡ record { name = log.name; head = log.head; end = log.end; room = 0 } → ((es : List (List ℕ)) → IfTold old (IsFound log es) → Reads gate es new)
+pub made_repaired : (old new : Option History) (log : InspectedLog) (gate : LogState) → gate ≡ record { name = log.name; head = log.head; end = log.end; count = log.count; room = 0 } → ((es : List (List ℕ)) → IfTold old (IsFound log es) → Reads gate es new)
     → ((es : List (List ℕ)) → IfTold old (IsFoundKept log es) → Holds gate es new) → IsRepaired old new log gate
 made_repaired old new log gate is reads holds = record { is = is; reads = reads; holds = holds }
 

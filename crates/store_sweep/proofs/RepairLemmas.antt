@@ -67,7 +67,7 @@ kept_found : (g : ℕ) (m : MapMeaning) (was : Files) (found : InspectedLog) (en
 kept_found g m was found entries disk at h k =
     let own : IsHeldLog (was found.name) (disk found.name) = at.held was (disk found.name) (k found.name) in
     let e : own.octets ≡ log_front found.head entries ++ found.gate ∷ h.rest = same_Some _ _ (sym own.keeps.reads ∙ h.stands.reads) in
-    record { rest = h.rest; behind = h.behind; kept = record { stands = h.stands; keeps = subst (Keeps (disk found.name)) e own.keeps } }
+    record { count = h.count; rest = h.rest; behind = h.behind; kept = record { stands = h.stands; keeps = subst (Keeps (disk found.name)) e own.keeps } }
 
 -- where the store is held, the log is
 pub repair_kept : (g : ℕ) (m : MapMeaning) (was : Files) (found : InspectedLog) (entries : List (List ℕ)) (old : Option History) → IsLogAt g m found.name → IfTold old (IsFound found entries) → IfTold old (IsHeldStore g m was) → IfTold old (IsFoundKept found entries)
@@ -107,10 +107,10 @@ repair_images g m found entries (Some old) new at h each was k =
 
 -- ---- after it
 
-holds_after : (g : ℕ) (m : MapMeaning) (was : Files) (found : InspectedLog) (log : LogState) (entries : List (List ℕ)) (old new : DiskState) → IsLogAt g m found.name → log ≡ record { name = found.name; head = found.head; end = found.end; room = 0 }
+holds_after : (g : ℕ) (m : MapMeaning) (was : Files) (found : InspectedLog) (log : LogState) (entries : List (List ℕ)) (old new : DiskState) → IsLogAt g m found.name → log ≡ record { name = found.name; head = found.head; end = found.end; count = found.count; room = 0 }
     → IsFound found entries old → ((other : FileName) → other ≢ found.name → new other ≡ old other) → IsLogHeld log entries new → IsHeldStore g m was old → IsHeldStore g m was new
 holds_after g m was found log entries old new at is h same held k =
-    let there : IsLogHeld (record { name = found.name; head = found.head; end = found.end; room = 0 }) entries new = subst (λ (l : LogState). IsLogHeld l entries new) is held in
+    let there : IsLogHeld (record { name = found.name; head = found.head; end = found.end; count = found.count; room = 0 }) entries new = subst (λ (l : LogState). IsLogHeld l entries new) is held in
     by_name (λ (n : FileName). IsHeldAt g m was n (new n)) found.name
     (at.holds was (new found.name) (record {
       octets = log_text found.head entries;
@@ -119,10 +119,10 @@ holds_after g m was found log entries old new at is h same held k =
     }))
     (λ other apart. subst (IsHeldAt g m was other) (sym (same other apart)) (k other))
 
-reads_after : (g : ℕ) (m : MapMeaning) (was : Files) (found : InspectedLog) (log : LogState) (entries : List (List ℕ)) (old new : DiskState) → IsLogAt g m found.name → log ≡ record { name = found.name; head = found.head; end = found.end; room = 0 }
+reads_after : (g : ℕ) (m : MapMeaning) (was : Files) (found : InspectedLog) (log : LogState) (entries : List (List ℕ)) (old new : DiskState) → IsLogAt g m found.name → log ≡ record { name = found.name; head = found.head; end = found.end; count = found.count; room = 0 }
     → IsFound found entries old → ((other : FileName) → other ≢ found.name → new other ≡ old other) → IsLogRead log entries new → IsReadStore g m was old → IsReadStore g m was new
 reads_after g m was found log entries old new at is h same read k =
-    let there : IsLogRead (record { name = found.name; head = found.head; end = found.end; room = 0 }) entries new = subst (λ (l : LogState). IsLogRead l entries new) is read in
+    let there : IsLogRead (record { name = found.name; head = found.head; end = found.end; count = found.count; room = 0 }) entries new = subst (λ (l : LogState). IsLogRead l entries new) is read in
     let before : HasSameEntries (was found.name) (Some (log_front found.head entries ++ found.gate ∷ h.rest)) =
     subst (HasSameEntries (was found.name)) h.stands.reads (at.read was (reading (old found.name)) (k found.name)) in
     by_name (λ (n : FileName). CarriesOver g m was n (reading (new n))) found.name
@@ -160,14 +160,14 @@ stays_reads : (log : LogState) (entries : List (List ℕ)) (old new : Option His
 stays_reads log entries None None stays h = tt
 stays_reads log entries None (Some new) stays h = absurd (let e : Some new ≡ None = stays in cc)
 stays_reads log entries (Some old) None stays h = elim stays [ ]
-stays_reads log entries (Some old) (Some new) stays h = record { file = stays.0 ∙ h.file; end = h.end; head_fits = h.head_fits; entries_fit = h.entries_fit }
+stays_reads log entries (Some old) (Some new) stays h = record { file = stays.0 ∙ h.file; end = h.end; count = h.count; head_fits = h.head_fits; entries_fit = h.entries_fit }
 
 stays_holds : (log : LogState) (entries : List (List ℕ)) (old new : Option History) → LogStays log.name old new → Holds log entries old → Holds log entries new
 stays_holds log entries None None stays h = tt
 stays_holds log entries None (Some new) stays h = absurd (let e : Some new ≡ None = stays in cc)
 stays_holds log entries (Some old) None stays h = elim stays [ ]
 stays_holds log entries (Some old) (Some new) stays h = record {
-  reads = record { file = stays.0 ∙ h.reads.file; end = h.reads.end; head_fits = h.reads.head_fits; entries_fit = h.reads.entries_fit };
+  reads = record { file = stays.0 ∙ h.reads.file; end = h.reads.end; count = h.reads.count; head_fits = h.reads.head_fits; entries_fit = h.reads.entries_fit };
   keeps = stays.1 _ h.keeps;
 }
 

@@ -16,7 +16,7 @@ pub record StandsFound (disk : DiskState) (found : InspectedLog) : Type 0 where
 
 -- a log that was found, as it is when its end is repaired
 abbrev pub repaired_log : InspectedLog → LogState
-repaired_log found = record { name = found.name; head = found.head; end = found.end; room = 0 }
+repaired_log found = record { name = found.name; head = found.head; end = found.end; count = found.count; room = 0 }
 
 -- The log that was found is this one afterwards: with the entries that it had, and held where it was.
 pub record IsRepaired (old new : Option History) (found : InspectedLog) (log : LogState) : Type 0 where

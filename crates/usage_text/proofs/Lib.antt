@@ -1,4 +1,5 @@
 pub mod BlameLemmas
+pub mod KeywordBlameLemmas
 pub mod LineLemmas
 pub mod PrintLemmas
 pub mod RuleLemmas

@@ -1,7 +1,7 @@
 -- A word between quotes is of printing octets.
 use Rattle.std.specs.Prelude.{◌≡◌, ◌<◌, ◌≤◌, ◌+◌, ◌/◌, ◌%◌, ◌==◌, ℕ, Bool, true, false, List, [], ◌∷◌, ◌++◌, length, take, flat_map, cond, if◌then◌else◌, All, nat_lt, refl}
 use Rattle.std.specs.Char.{digit_char}
-use Rattle.std.specs.Char.Escape.{escape_ascii, escape_or, short_escape, hex_digit_at}
+use Rattle.std.specs.Char.Escape.{escape_ascii, short_escape, hex_digit_at}
 use Rattle.std.proofs.Common.{arith}
 use Rattle.std.proofs.lemmas.Bool.{ltb-false, ltb-true}
 use Rattle.std.proofs.lemmas.List.Elements.{All-append, All-cons, All-nil}

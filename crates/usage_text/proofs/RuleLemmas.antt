@@ -7,15 +7,17 @@ use Rattle.std.proofs.lemmas.Fmt.{decimal_injective}
 use Rattle.std.proofs.lemmas.List.Elements.{All-nil, All-cons}
 use Rattle.std.proofs.lemmas.Str.{IsUtf8-from_ascii}
 use Rattle.hex.specs.Hex.{encode_lower}
+use Rattle.mdbox_base.specs.Keywords.{IsAtomOctet, IsKeyword, AreWords}
 use Rattle.mdbox_base.specs.Numbers.{decimal_text}
-use Rattle.mdbox_base.specs.Words.{IsName, IsNumber, IsOctets}
+use Rattle.mdbox_base.specs.Words.{IsName, IsOctets}
 use Rattle.request_text.specs.Commands.{words_of, IsInRange, Says}
 use Rattle.request_text.specs.declared.command.Command.{Command}
 use Rattle.request_text.specs.declared.command.Command.TheVariants as command
-use Rattle.usage_text.specs.Blames.{FitsRule, IsDecimal, HasVerb, StandsInCommand, word_at}
+use Rattle.usage_text.specs.Blames.{FitsRule, IsDecimal, HasVerb, SayVerb, StandsInCommand, word_at}
 use Rattle.usage_text.specs.Rules.{rules_of, AreRulesOf, FitTo}
 use Rattle.usage_text.specs.declared.rule.Rule.{Rule}
 use Rattle.usage_text.specs.declared.rule.Rule.TheVariants as rule
+use Rattle.request_text.proofs.GivenWordLemmas.{themselves}
 
 -- ---- words beside rules
 
@@ -28,9 +30,14 @@ FitAll (r ∷ rules) (w ∷ words) = FitsRule r w × FitAll rules words
 abbrev pub rule_at : List Rule → ℕ → Rule
 rule_at rules place = get_or rules place rule.Name
 
-pub fit_at : (rules : List Rule) (words : List (List ℕ)) (place : ℕ) → FitAll rules words → place < length rules → FitsRule (rule_at rules place) (word_at words place)
-fit_at [] [] place f lt = absurd (omega (arith, lt))
-fit_at [] (w ∷ words) place f lt = absurd f
+-- and others may follow
+abbrev FitFirst : List Rule → List (List ℕ) → Type 0
+FitFirst [] words = Unit {0}
+FitFirst (r ∷ rules) [] = ⊥
+FitFirst (r ∷ rules) (w ∷ words) = FitsRule r w × FitFirst rules words
+
+fit_at : (rules : List Rule) (words : List (List ℕ)) (place : ℕ) → FitFirst rules words → place < length rules → FitsRule (rule_at rules place) (word_at words place)
+fit_at [] words place f lt = absurd (omega (arith, lt))
 fit_at (r ∷ rules) [] place f lt = absurd f
 fit_at (r ∷ rules) (w ∷ words) zero f lt = f.0
 fit_at (r ∷ rules) (w ∷ words) (suc place) f lt = fit_at rules words place f.1 (omega (arith, lt))
@@ -53,7 +60,7 @@ ascii_one : IsAscii (120 ∷ [])
 ascii_one zero = omega arith
 ascii_one (suc i) = omega arith
 
-sample_name : IsName (120 ∷ [])
+pub sample_name : IsName (120 ∷ [])
 sample_name = record {
   some = omega arith;
   short = omega arith;
@@ -61,6 +68,26 @@ sample_name = record {
   no_delete = All-cons (λ (octet : ℕ). octet ≢ 127) 120 [] (λ e. omega (arith, e)) (All-nil (λ (octet : ℕ). octet ≢ 127));
   utf8 = IsUtf8-from_ascii (120 ∷ []) ascii_one;
 }
+
+sample_octet : IsAtomOctet 120
+sample_octet = record {
+  low = omega arith;
+  high = omega arith;
+  no_open = λ e. omega (arith, e);
+  no_close = λ e. omega (arith, e);
+  no_brace = λ e. omega (arith, e);
+  no_percent = λ e. omega (arith, e);
+  no_star = λ e. omega (arith, e);
+  no_quote = λ e. omega (arith, e);
+  no_backslash = λ e. omega (arith, e);
+  no_bracket = λ e. omega (arith, e);
+}
+
+pub sample_keyword : IsKeyword (120 ∷ [])
+sample_keyword = record { some = omega arith; short = omega arith; atom = All-cons IsAtomOctet 120 [] sample_octet (All-nil IsAtomOctet) }
+
+pub no_words : AreWords []
+no_words = record { few = omega arith; each = All-nil IsKeyword; rising = λ i j d lt le. absurd (omega (arith, le)) }
 
 abbrev zeros : List ℕ
 zeros = 0 ∷ 0 ∷ 0 ∷ 0 ∷ 0 ∷ 0 ∷ 0 ∷ 0 ∷ []
@@ -74,11 +101,13 @@ zeros_are_octets = one_more (0 ∷ 0 ∷ 0 ∷ 0 ∷ 0 ∷ 0 ∷ 0 ∷ []) (one_
 abbrev sample : Rule → List ℕ
 sample rule.Id = encode_lower zeros
 sample rule.Name = 120 ∷ []
+sample rule.Keyword = 120 ∷ []
 sample other = decimal_text 1
 
 sample_fits : (r : Rule) → FitsRule r (sample r)
 sample_fits rule.Id = (zeros, refl, zeros_are_octets, refl)
 sample_fits rule.Name = sample_name
+sample_fits rule.Keyword = sample_keyword
 sample_fits rule.Uid = (1, omega arith, omega arith, refl)
 sample_fits rule.Flags = (1, omega arith, omega arith, refl)
 sample_fits rule.Lanes = (1, omega arith, omega arith, refl)
@@ -130,30 +159,44 @@ abbrev pub others_of : List (List ℕ) → List (List ℕ)
 others_of [] = []
 others_of (w ∷ words) = words
 
-pub fits_all : (c : Command) → IsInRange c → FitAll (rules_of c) (others_of (words_of c))
-fits_all (command.Init id) r = ((id.0, r.0, r.1, refl), tt)
-fits_all (command.Deliver name) r = (r, tt)
-fits_all (command.List name) r = (r, tt)
-fits_all (command.Fetch name uid) r = (r.0, ((uid.0, r.1.low, r.1.high, refl), tt))
-fits_all (command.Flag name uid flags) r = (r.0, ((uid.0, r.1.low, r.1.high, refl), ((flags, omega arith, r.2, refl), tt)))
-fits_all (command.Expunge name uid) r = (r.0, ((uid.0, r.1.low, r.1.high, refl), tt))
-fits_all (command.Copy name uid target) r = (r.0, ((uid.0, r.1.low, r.1.high, refl), (r.2, tt)))
-fits_all (command.Move name uid target) r = (r.0, ((uid.0, r.1.low, r.1.high, refl), (r.2, tt)))
-fits_all (command.Make name) r = (r, tt)
-fits_all (command.Delete name) r = (r, tt)
-fits_all (command.Rename name target) r = (r.0, (r.1, tt))
-fits_all command.Boxes r = tt
-fits_all command.Counts r = tt
-fits_all command.Purge r = tt
-fits_all command.Resync r = tt
-fits_all command.Serve r = tt
-fits_all (command.Batch lanes) r = ((lanes, r.0, r.1, refl), tt)
-fits_all (command.Exercise lanes count number) r = ((lanes, r.0, r.1, refl), ((count, r.2, r.3, refl), ((number, omega arith, omega (arith, r.4), refl), tt)))
-fits_all (command.Rebuild id) r = ((id.0, r.0, r.1, refl), tt)
-fits_all command.Dump r = tt
-fits_all command.LogDump r = tt
-fits_all command.Help r = tt
-fits_all command.Version r = tt
+fits_first : (c : Command) → IsInRange c → FitFirst (rules_of c) (others_of (words_of c))
+fits_first (command.Init id) r = ((id.0, r.0, r.1, refl), tt)
+fits_first (command.Deliver name) r = (r, tt)
+fits_first (command.List name) r = (r, tt)
+fits_first (command.Fetch name uid) r = (r.0, ((uid.0, r.1.low, r.1.high, refl), tt))
+fits_first (command.Flag name uid flags) r = (r.0, ((uid.0, r.1.low, r.1.high, refl), ((flags, omega arith, r.2, refl), tt)))
+fits_first (command.Keywords name uid words) r = (r.0, ((uid.0, r.1.low, r.1.high, refl), tt))
+fits_first (command.Expunge name uid) r = (r.0, ((uid.0, r.1.low, r.1.high, refl), tt))
+fits_first (command.Copy name uid target) r = (r.0, ((uid.0, r.1.low, r.1.high, refl), (r.2, tt)))
+fits_first (command.Move name uid target) r = (r.0, ((uid.0, r.1.low, r.1.high, refl), (r.2, tt)))
+fits_first (command.Make name) r = (r, tt)
+fits_first (command.Delete name) r = (r, tt)
+fits_first (command.Rename name target) r = (r.0, (r.1, tt))
+fits_first command.Boxes r = tt
+fits_first command.Counts r = tt
+fits_first command.Purge r = tt
+fits_first command.Resync r = tt
+fits_first command.Serve r = tt
+fits_first (command.Batch lanes) r = ((lanes, r.0, r.1, refl), tt)
+fits_first (command.Exercise lanes count number) r = ((lanes, r.0, r.1, refl), ((count, r.2, r.3, refl), ((number, omega arith, omega (arith, r.4), refl), tt)))
+fits_first (command.Rebuild id) r = ((id.0, r.0, r.1, refl), tt)
+fits_first command.Dump r = tt
+fits_first command.LogDump r = tt
+fits_first command.Help r = tt
+fits_first command.Version r = tt
+
+-- words that say a command, of which keywords may stand in any order
+said_first : (c : Command) (words : List (List ℕ)) → Says words c → FitFirst (rules_of c) (others_of words)
+said_first (command.Keywords name uid texts) words s = subst (λ (ws : List (List ℕ)). FitFirst (rule.Name ∷ rule.Uid ∷ []) (others_of ws)) (sym s.1.2) (s.0.0, ((uid.0, s.0.1.low, s.0.1.high, refl), tt))
+said_first c words s = subst (λ (ws : List (List ℕ)). FitFirst (rules_of c) (others_of ws)) (sym s.1) (fits_first c s.0)
+
+pub says_own : (c : Command) → IsInRange c → Says (words_of c) c
+says_own (command.Keywords name uid texts) r = (r, (texts, themselves texts r.2, refl))
+says_own c r = (r, refl)
+
+pub verb_said : (c : Command) (words : List (List ℕ)) → Says words c → word_at words 0 ≡ verb_of c
+verb_said (command.Keywords name uid texts) words s = ap (λ (ws : List (List ℕ)). word_at ws 0) s.1.2
+verb_said c words s = ap (λ (ws : List (List ℕ)). word_at ws 0) s.1
 
 -- ---- words that fit are those of a command
 
@@ -199,6 +242,7 @@ said_by (command.Make name) words f = let s = one_fit rule.Name words f in (comm
 said_by (command.Delete name) words f = let s = one_fit rule.Name words f in (command.Delete s.0, s.1, same_one (codes "delete") _ _ words s.2 refl)
 said_by (command.Rename name target) words f = let s = two_fit rule.Name rule.Name words f in (command.Rename s.0 s.1, (s.2, s.3), same_two (codes "rename") _ _ _ _ words s.4 refl refl)
 said_by (command.Fetch name uid) words f = let s = two_fit rule.Name rule.Uid words f in (command.Fetch s.0 (record { 0 = s.3.0 }), (s.2, record { low = s.3.1; high = s.3.2 }), same_two (codes "fetch") _ _ _ _ words s.4 refl s.3.3)
+said_by (command.Keywords name uid texts) words f = let s = two_fit rule.Name rule.Uid words f in (command.Keywords s.0 (record { 0 = s.3.0 }) [], (s.2, record { low = s.3.1; high = s.3.2 }, no_words), same_two (codes "keywords") _ _ _ _ words s.4 refl s.3.3)
 said_by (command.Expunge name uid) words f = let s = two_fit rule.Name rule.Uid words f in (command.Expunge s.0 (record { 0 = s.3.0 }), (s.2, record { low = s.3.1; high = s.3.2 }), same_two (codes "expunge") _ _ _ _ words s.4 refl s.3.3)
 said_by (command.Flag name uid flags) words f = let s = three_fit rule.Name rule.Uid rule.Flags words f in (command.Flag s.0 (record { 0 = s.4.0 }) s.5.0, (s.3, record { low = s.4.1; high = s.4.2 }, s.5.2), same_three (codes "flag") _ _ _ _ _ _ words s.6 refl s.4.3 s.5.3)
 said_by (command.Copy name uid target) words f = let s = three_fit rule.Name rule.Uid rule.Name words f in (command.Copy s.0 (record { 0 = s.4.0 }) s.2, (s.3, record { low = s.4.1; high = s.4.2 }, s.5), same_three (codes "copy") _ _ _ _ _ _ words s.6 refl s.4.3 refl)
@@ -230,6 +274,7 @@ rules_same (command.Deliver a0) (command.Deliver b0) e = refl
 rules_same (command.List a0) (command.List b0) e = refl
 rules_same (command.Fetch a0 a1) (command.Fetch b0 b1) e = refl
 rules_same (command.Flag a0 a1 a2) (command.Flag b0 b1 b2) e = refl
+rules_same (command.Keywords a0 a1 a2) (command.Keywords b0 b1 b2) e = refl
 rules_same (command.Expunge a0 a1) (command.Expunge b0 b1) e = refl
 rules_same (command.Copy a0 a1 a2) (command.Copy b0 b1 b2) e = refl
 rules_same (command.Move a0 a1 a2) (command.Move b0 b1 b2) e = refl
@@ -250,30 +295,10 @@ rules_same command.Help command.Help e = refl
 rules_same command.Version command.Version e = refl
 rules_same c d e = absurd (differ (verb_of c) (verb_of d) e refl)
 
-lengths : (c : Command) → length (words_of c) ≡ suc (length (rules_of c))
-lengths (command.Init a0) = refl
-lengths (command.Deliver a0) = refl
-lengths (command.List a0) = refl
-lengths (command.Fetch a0 a1) = refl
-lengths (command.Flag a0 a1 a2) = refl
-lengths (command.Expunge a0 a1) = refl
-lengths (command.Copy a0 a1 a2) = refl
-lengths (command.Move a0 a1 a2) = refl
-lengths (command.Make a0) = refl
-lengths (command.Delete a0) = refl
-lengths (command.Rename a0 a1) = refl
-lengths command.Boxes = refl
-lengths command.Counts = refl
-lengths command.Purge = refl
-lengths command.Resync = refl
-lengths command.Serve = refl
-lengths (command.Batch a0) = refl
-lengths (command.Exercise a0 a1 a2) = refl
-lengths (command.Rebuild a0) = refl
-lengths command.Dump = refl
-lengths command.LogDump = refl
-lengths command.Help = refl
-lengths command.Version = refl
+-- each has as many words as rules, but for keywords
+lengths : (c : Command) → (verb_of c ≡ codes "keywords" → ⊥) → length (words_of c) ≡ suc (length (rules_of c))
+lengths (command.Keywords name uid words) other = absurd (other refl)
+lengths c other = refl
 
 -- ---- what may stand at a place
 
@@ -282,13 +307,13 @@ next_of [] place = refl
 next_of (w ∷ words) place = refl
 
 -- of any command of the verb
-one_row : (verb : List ℕ) (rules : List Rule) (c : Command) → AreRulesOf verb rules → HasVerb verb c → rules ≡ rules_of c
+pub one_row : (verb : List ℕ) (rules : List Rule) (c : Command) → AreRulesOf verb rules → HasVerb verb c → rules ≡ rules_of c
 one_row verb rules c are has = are.2 ∙ rules_same are.0 c (are.1 ∙ sym has)
 
-pub row_length : (verb : List ℕ) (rules : List Rule) (c : Command) → AreRulesOf verb rules → HasVerb verb c → length (words_of c) ≡ 1 + length rules
-row_length verb rules c are has =
+pub row_length : (verb : List ℕ) (rules : List Rule) (c : Command) → AreRulesOf verb rules → HasVerb verb c → (verb ≡ codes "keywords" → ⊥) → length (words_of c) ≡ 1 + length rules
+row_length verb rules c are has other =
     let e : length rules ≡ length (rules_of c) = ap length (one_row verb rules c are has) in
-    let l : length (words_of c) ≡ suc (length (rules_of c)) = lengths c in
+    let l : length (words_of c) ≡ suc (length (rules_of c)) = lengths c (λ is. other (sym has ∙ is)) in
     omega (arith, e, l)
 
 pub said_with : (verb : List ℕ) (rules : List Rule) (words : List (List ℕ)) → AreRulesOf verb rules → FitAll rules words → SaidBy verb words
@@ -296,14 +321,19 @@ said_with verb rules words are fit =
     let s = said_by are.0 words (subst (λ (rs : List Rule). FitAll rs words) are.2 fit) in
     subst (λ (v : List ℕ). SaidBy v words) are.1 s
 
+say_own : (verb : List ℕ) (words : List (List ℕ)) (said : SaidBy verb words) → SayVerb verb (words_of said.0)
+say_own verb words said = record { command = said.0; says = says_own said.0 said.1; verb_is = ap (λ (ws : List (List ℕ)). word_at ws 0) said.2 }
+
+pub say_with : (verb : List ℕ) (words : List (List ℕ)) → SaidBy verb words → SayVerb verb (verb ∷ words)
+say_with verb words said = subst (SayVerb verb) said.2 (say_own verb words said)
+
 stands_in : (verb word : List ℕ) (words : List (List ℕ)) (place : ℕ) → SaidBy verb words → place < length words → word_at words place ≡ word → StandsInCommand verb (place + 1) word
 stands_in verb word words place said lt is =
     let next : place + 1 ≡ suc place = omega arith in
     let long : length (words_of said.0) ≡ suc (length words) = ap length said.2 in
     record {
-      command = said.0;
-      range = said.1;
-      verb_is = ap (λ (ws : List (List ℕ)). word_at ws 0) said.2;
+      words = words_of said.0;
+      say = say_own verb words said;
       within = omega (arith, long, lt);
       word_is = ap (λ (ws : List (List ℕ)). word_at ws (place + 1)) said.2 ∙ ap (λ (k : ℕ). word_at (verb ∷ words) k) next ∙ is;
     }
@@ -315,22 +345,23 @@ stands verb word rules place are lt fits =
     let long : length (fill rules place word) ≡ length rules = fit_length rules (fill rules place word) fit in
     stands_in verb word (fill rules place word) place (said_with verb rules (fill rules place word) are fit) (omega (arith, long, lt)) (fill_at rules place word lt)
 
+-- words of the verb that say a command
+pub sample_said : (verb : List ℕ) (rules : List Rule) → AreRulesOf verb rules → (words : List (List ℕ)) × SaidBy verb words × (length words ≡ length rules)
+sample_said verb rules are = (samples rules, said_with verb rules (samples rules) are (samples_fit rules), fit_length rules (samples rules) (samples_fit rules))
+
 -- the verb may stand first
 pub verb_stands : (verb : List ℕ) (rules : List Rule) → AreRulesOf verb rules → StandsInCommand verb 0 verb
 verb_stands verb rules are =
     let said = said_with verb rules (samples rules) are (samples_fit rules) in
-    let long : length (words_of said.0) ≡ suc (length (samples rules)) = ap length said.2 in
-    let first : word_at (words_of said.0) 0 ≡ verb = ap (λ (ws : List (List ℕ)). word_at ws 0) said.2 in
-    record { command = said.0; range = said.1; verb_is = first; within = omega (arith, long); word_is = first }
+    record { words = verb ∷ samples rules; say = say_with verb (samples rules) said; within = omega arith; word_is = refl }
 
 -- and what may stand there fits it
-pub stands_fits : (verb word : List ℕ) (rules : List Rule) (place : ℕ) → AreRulesOf verb rules → StandsInCommand verb (place + 1) word → FitsRule (rule_at rules place) word
-stands_fits verb word rules place are may =
-    let c = may.command in
-    let row : rules ≡ rules_of c = one_row verb rules c are may.verb_is in
-    let long : length (words_of c) ≡ suc (length (rules_of c)) = lengths c in
-    let within : place + 1 < length (words_of c) = may.within in
+pub stands_fits : (verb word : List ℕ) (rules : List Rule) (place : ℕ) → AreRulesOf verb rules → place < length rules → StandsInCommand verb (place + 1) word → FitsRule (rule_at rules place) word
+stands_fits verb word rules place are lt may =
+    let c = may.say.command in
+    let row : rules ≡ rules_of c = one_row verb rules c are may.say.verb_is in
+    let long : length rules ≡ length (rules_of c) = ap length row in
     let next : place + 1 ≡ suc place = omega arith in
-    let fits = fit_at (rules_of c) (others_of (words_of c)) place (fits_all c may.range) (omega (arith, long, within)) in
-    let is : word_at (others_of (words_of c)) place ≡ word = next_of (words_of c) place ∙ ap (λ (k : ℕ). word_at (words_of c) k) (sym next) ∙ may.word_is in
+    let fits = fit_at (rules_of c) (others_of may.words) place (said_first c may.words may.say.says) (omega (arith, long, lt)) in
+    let is : word_at (others_of may.words) place ≡ word = next_of may.words place ∙ ap (λ (k : ℕ). word_at may.words k) (sym next) ∙ may.word_is in
     subst (λ (rs : List Rule). FitsRule (rule_at rs place) word) (sym row) (subst (λ (w : List ℕ). FitsRule (rule_at (rules_of c) place) w) is fits)

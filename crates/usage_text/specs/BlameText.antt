@@ -1,5 +1,5 @@
 -- What is told of words that say no command.
-use Rattle.std.specs.Prelude.{◌≤◌, ◌-◌, ◌<◌, ℕ, List, [], ◌∷◌, ◌++◌, length, take, flat_map, codes, if◌then◌else◌, nat_lt}
+use Rattle.std.specs.Prelude.{◌≤◌, ◌-◌, ℕ, List, [], ◌∷◌, ◌++◌, length, take, flat_map, codes, if◌then◌else◌, nat_lt}
 use Rattle.std.specs.Char.Escape.{escape_ascii}
 use Rattle.mdbox_base.specs.Numbers.{decimal_text}
 use Rattle.usage_text.specs.Blames.{word_at}

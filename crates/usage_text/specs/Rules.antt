@@ -1,5 +1,5 @@
 -- The rules of a command's words, as they are looked up.
-use Rattle.std.specs.Prelude.{◌≡◌, ◌<◌, ◌+◌, ℕ, List, [], ◌∷◌, length, get_or}
+use Rattle.std.specs.Prelude.{◌≡◌, ◌<◌, ℕ, List, [], ◌∷◌, length, get_or}
 use Rattle.request_text.specs.declared.command.Command.{Command}
 use Rattle.request_text.specs.declared.command.Command.TheVariants as command
 use Rattle.usage_text.specs.Blames.{FitsRule, HasVerb, word_at}

@@ -250,7 +250,7 @@ fn make_log<D: Disk>(
 ) -> Result<GateLog, DiskFault>
     ensures any_moment { EachImage (λ _ image. OthersStay (file.Box number.0 1) (D.history disk.old) image) (D.history disk.old) (D.history disk.new) }
     ensures made { IfOk result (λ log. Holds log [] (D.history disk.new)) }
-    ensures log { IfOk result (λ log. log ≡ record { name = file.Box number.0 1; head = head_of store.0 kind.Box number.0 1; end = 25; room = 0 }) }
+    ensures log { IfOk result (λ log. log ≡ record { name = file.Box number.0 1; head = head_of store.0 kind.Box number.0 1; end = 25; count = 0; room = 0 }) }
     ensures others { OnOk result (NamedButFor (file.Box number.0 1) (D.history disk.old) (D.history disk.new)) }
     ensures fault { ChangeFaultCounted (IsErr result) (D.faults disk.old) (D.faults disk.new) }
     ensures unfailed { OnOk result (NoFault (D.faults disk.old) (D.faults disk.new)) }

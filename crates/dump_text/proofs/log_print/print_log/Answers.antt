@@ -1,8 +1,13 @@
-use Rattle.std.proofs.Common.{◌∙◌, rules}
+use Rattle.std.proofs.Common.{[], ◌∙◌, rules}
 use Rattle.std.proofs.lemmas.Result.{err_from_is_err_and, on_ok_weaker, on_err_weaker}
-use Rattle.piece_writer.proofs.PieceLemmas.{cut_end, passed_end}
+use Rattle.piece_writer.proofs.PieceLemmas.{cut_end, cut_nothing, passed_end}
 use Rattle.dump_text.proofs.LogPrintLemmas.{printed-none, printed-more, printed-cut, printed-stops, end_cut, all_passed}
 use Rattle.dump_text.proofs.log_print.print_log.Goals as goal
+
+pub returns-in_err-head_text-clause-err : goal.returns-in_err-head_text-clause-err
+returns-in_err-head_text-clause-err g c =
+    let p = err_from_is_err_and c.from_residual.result c.from_residual.ensures.1 in
+    rw p.1 (λ entries is. cut_nothing _ [] _)
 
 pub loop-place-init : goal.loop-place-init
 loop-place-init g c = record {

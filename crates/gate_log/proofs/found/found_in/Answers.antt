@@ -1,5 +1,6 @@
 use Rattle.std.proofs.Common.{◌≡◌, ◌+◌, ℕ, List, length, get_or, ◌∙◌, ap, arith}
 use Rattle.gate_log.proofs.OpenLogLemmas.{long-is, gate-is}
+use Rattle.gate_log.proofs.TextLemmas.{text-few}
 use Rattle.gate_log.proofs.found.found_in.Goals as goal
 use Rattle.gate_log.proofs.found.found_in.Goals.{After-as_slice-octets}
 
@@ -16,7 +17,7 @@ pub overflow_sub-result-2 : goal.overflow_sub-result-2
 overflow_sub-result-2 c = omega (arith, long (goal.at.overflow_sub-result-2 c).After-as_slice-octets)
 
 pub invariant_of-result : goal.invariant_of-result
-invariant_of-result c = omega (arith, long (goal.at.invariant_of-result c).After-as_slice-octets, c.as_slice-octets.type_inv.1)
+invariant_of-result c = (omega (arith, long (goal.at.invariant_of-result c).After-as_slice-octets, c.as_slice-octets.type_inv.1), text-few c.args.text.now c.requires)
 
 pub returns-clause-end : goal.returns-clause-end
 returns-clause-end c = λ entries log e. (

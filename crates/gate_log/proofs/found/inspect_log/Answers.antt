@@ -13,7 +13,7 @@ pub returns-clause-log : goal.returns-clause-log
 returns-clause-log g c =
     let found = c.in_ok-found.ensures.log in
     let t = text g (goal.at.returns-clause-log g c).In_ok-read in
-    (found.0, found.1, found.2 ∙ t.end ∙ sym c.in_ok-read.ensures.read.0.end, c.in_ok-read.ensures.read.1)
+    (found.0, found.1, found.2 ∙ t.end ∙ sym c.in_ok-read.ensures.read.0.end, c.in_ok-read.ensures.read.1, found.4 ∙ t.count)
 
 pub returns-clause-found : goal.returns-clause-found
 returns-clause-found g c = c.in_ok-found.ensures.found c.in_ok-read.read.entries (text g (goal.at.returns-clause-found g c).In_ok-read)

@@ -25,19 +25,19 @@ returns-clause-found g c = λ entries t.
     let d = (goal.at.returns-clause-found g c).After-found_in-found in
     let l = log g d entries t in
     let e = c.found_in-found.ensures.end entries l t.end in
-    found-mid c.found_in-found.result entries c.in_ok-text.text.octets _ _ l (c.found_in-found.ensures.log.2 ∙ t.end) e.0 e.1 (idle-begins _) (told g d)
+    found-mid c.found_in-found.result entries c.in_ok-text.text.octets _ _ l (c.found_in-found.ensures.log.2 ∙ t.end) (c.found_in-found.ensures.log.3 ∙ t.count) e.0 e.1 (idle-begins _) (told g d)
 
 pub returns-clause-stands : goal.returns-clause-stands
 returns-clause-stands g c = λ entries t.
     let d = (goal.at.returns-clause-stands g c).After-found_in-found in
     let l = log g d entries t in
     let e = c.found_in-found.ensures.end entries l t.end in
-    found-mid c.found_in-found.result entries c.in_ok-text.text.octets _ _ l (c.found_in-found.ensures.log.2 ∙ t.end) e.0 e.1 c.in_ok-octets.ensures.idle (told g d)
+    found-mid c.found_in-found.result entries c.in_ok-text.text.octets _ _ l (c.found_in-found.ensures.log.2 ∙ t.end) (c.found_in-found.ensures.log.3 ∙ t.count) e.0 e.1 c.in_ok-octets.ensures.idle (told g d)
 
 pub returns-clause-kept : goal.returns-clause-kept
 returns-clause-kept g c = λ entries octets t k.
     let d = (goal.at.returns-clause-kept g c).After-found_in-found in
     let l = log g d entries t in
     let e = c.found_in-found.ensures.end entries l t.end in
-    found_kept-mid c.found_in-found.result entries c.in_ok-text.text.octets octets _ _ l (c.found_in-found.ensures.log.2 ∙ t.end) e.0 e.1 c.in_ok-octets.ensures.idle (told g d)
+    found_kept-mid c.found_in-found.result entries c.in_ok-text.text.octets octets _ _ l (c.found_in-found.ensures.log.2 ∙ t.end) (c.found_in-found.ensures.log.3 ∙ t.count) e.0 e.1 c.in_ok-octets.ensures.idle (told g d)
     (subst (λ (n : FileName). IfTold (g.D.Disk.history c.args.disk.now) (λ now. Keeps (now n) octets)) (sym c.found_in-found.ensures.log.0) k)

@@ -1,6 +1,6 @@
-use Rattle.std.proofs.Common.{◌≡◌, ◌+◌, ℕ, List, take, drop, get_or, sym, ◌∙◌, ap, subst}
+use Rattle.std.proofs.Common.{◌≡◌, ◌+◌, ℕ, List, take, drop, sym, ◌∙◌, ap}
 use Rattle.std.specs.Int.{w32, from_be_bytes}
-use Rattle.model_logs.specs.LogFile.{IsVersionOf, kind_letter}
+use Rattle.model_logs.specs.LogFile.{kind_letter}
 use Rattle.gate_log.proofs.HeadLemmas.{octets_of, digit_of, other_name, short_name, other_digit, short_kind, other_kind, short_head, whole_head}
 use Rattle.gate_log.proofs.head.read_head.Goals as goal
 

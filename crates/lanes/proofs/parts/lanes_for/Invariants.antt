@@ -1,4 +1,4 @@
-use Rattle.std.proofs.Common.{◌≡◌, ◌≤◌, ◌++◌, length, vec_len}
+use Rattle.std.proofs.Common.{◌≡◌, ◌++◌, length, vec_len}
 use Rattle.journal.specs.Journal.{Requests}
 use Rattle.lanes.specs.Worlds.{AreGiven, AreRowsFrom}
 use Rattle.lanes.proofs.parts.lanes_for.Given as goal

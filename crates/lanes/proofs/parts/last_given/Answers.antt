@@ -1,4 +1,4 @@
-use Rattle.std.proofs.Common.{◌≡◌, ◌++◌, ◌∷◌, [], ℕ, List, Option, Some, None, length, refl, sym, ◌∙◌, ap, subst, arith}
+use Rattle.std.proofs.Common.{◌++◌, ◌∷◌, [], List, Option, sym, ◌∙◌, subst}
 use Rattle.attach_detach.specs.declared.message.Prepared.{Prepared}
 use Rattle.lanes.specs.Worlds.{AreGiven}
 use Rattle.lanes.proofs.PartsLemmas.{given_last, some_given, no_items}

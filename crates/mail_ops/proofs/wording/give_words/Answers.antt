@@ -1,4 +1,4 @@
-use Rattle.mail_ops.proofs.Common.{ap, sym, subst, Some, StoreValue, HasNotBegun, Steps, ◌∙◌, [], refl, arith, option_copied, option_map, row_of, BoxState, seen_of, due_as_before, no_claims, fall, never_more, not_true, ok_is_none, plain_stopped}
+use Rattle.mail_ops.proofs.Common.{true, ap, sym, subst, Some, StoreValue, HasNotBegun, Steps, ◌∙◌, [], refl, arith, option_copied, option_map, row_of, BoxState, seen_of, due_as_before, no_claims, fall, never_more, not_true, ok_is_none, plain_stopped}
 use Rattle.std.proofs.Common.{Err}
 use Rattle.mdbox_base.specs.Keywords.{AreWords}
 use Rattle.mdbox_base.specs.declared.progress.Did.TheVariants as did
@@ -6,6 +6,8 @@ use Rattle.mdbox_base.specs.declared.progress.Progress.TheVariants as progress
 use Rattle.mdbox_base.specs.declared.replies.Refusal.TheVariants as refusal
 use Rattle.mdbox_base.specs.declared.replies.Reply.TheVariants as reply
 use Rattle.mdbox_base.specs.declared.requests.Request.TheVariants as request
+use Rattle.model_logs.specs.Entries.{WordsInRange}
+use Rattle.model_logs.proofs.EntryLemmas.{words_in_range}
 use Rattle.store_core.specs.Keeping.{KeepsRest}
 use Rattle.mail_ops.specs.OnlyLogs.{ChangesOnlyLogs}
 use Rattle.mail_ops.specs.declared.task.TaskStage.TheVariants as task_stage
@@ -17,6 +19,16 @@ use Rattle.task_steps.proofs.OneEventLemmas.{plain_forgets, plain_refused}
 use Rattle.mail_ops.proofs.OnlyLogsLemmas.{done_keeps, done_not, fell_keeps, halted_keeps, idle_keeps, refused_not, took_spares}
 use Rattle.mail_ops.proofs.LeavingLemmas.{same_leaves, words_leave}
 use Rattle.mail_ops.proofs.wording.give_words.Goals as goal
+
+pub append_box-requires-clause-range : goal.append_box-requires-clause-range
+append_box-requires-clause-range g c = (omega arith, subst (WordsInRange true) (sym c.in-Ok.ensures.ok) (words_in_range _ c.as_slice.ensures.words))
+
+pub append_box-requires-clause-fits : goal.append_box-requires-clause-fits
+append_box-requires-clause-fits g c = (
+  c.in-Some.index.now.meaning,
+  c.in-Some-number_of.ensures.some.0 ∙ (sym c.list_of.ensures ∙ ap (λ o. option_map (λ (i : BoxState). i.meaning) (option_copied o)) c.in-Some.is),
+  (some_of row_of c.find.result _ c.if-is_none.ensures c.find.ensures, subst AreWords (sym c.in-Ok.ensures.ok) c.as_slice.ensures.words),
+)
 
 pub returns-then-stopped-clause-does : goal.returns-then-stopped-clause-does
 returns-then-stopped-clause-does g c = λ around after pins run lane place said lists come shows stage. (
@@ -131,8 +143,8 @@ returns-in_default-copied_texts-clause-leaves g c = λ runs. same_leaves g.D.Dis
 pub returns-in_default-copied_texts-clause-keeps : goal.returns-in_default-copied_texts-clause-keeps
 returns-in_default-copied_texts-clause-keeps g c = idle_keeps _ _ _ _ c.args.store.now _ _ (sym c.stopped.ensures ∙ c.if-stopped.false) (refused_not refusal.NoMemory (λ e. cc e)) refl
 
-pub returns-in-Err-NoMemory-clause-does : goal.returns-in-Err-NoMemory-clause-does
-returns-in-Err-NoMemory-clause-does g c = λ around after pins.
+pub returns-clause-does : goal.returns-clause-does
+returns-clause-does g c = λ around after pins.
     subst (λ (v : StoreValue _). Steps HasNotBegun HasNotBegun around after (request.Keywords c.args.name.now c.args.uid c.args.words.now) (seen_of pins c.args.store.now (g.D.Disk.history c.args.store.now.disk) (g.D.Disk.faults c.args.store.now.disk)) (seen_of pins v (g.D.Disk.history v.disk) (g.D.Disk.faults v.disk)) did.Quiet (Some (reply.Refused refusal.NoMemory)))
     (sym (c.in-Err-NoMemory.ensures.memory (ap Err c.in-Err-NoMemory.field-0-is)).0)
     (λ run lane place said lists come shows stage. (
@@ -140,11 +152,11 @@ returns-in-Err-NoMemory-clause-does g c = λ around after pins.
       λ e. absurd (never_more _ e),
     ))
 
-pub returns-in-Err-NoMemory-clause-leaves : goal.returns-in-Err-NoMemory-clause-leaves
-returns-in-Err-NoMemory-clause-leaves g c = λ runs. same_leaves g.D.Disk.history no_claims c.args.store.now c.append_box.new.self (c.in-Err-NoMemory.ensures.memory (ap Err c.in-Err-NoMemory.field-0-is)).0
+pub returns-clause-leaves : goal.returns-clause-leaves
+returns-clause-leaves g c = λ runs. same_leaves g.D.Disk.history no_claims c.args.store.now c.append_box.new.self (c.in-Err-NoMemory.ensures.memory (ap Err c.in-Err-NoMemory.field-0-is)).0
 
-pub returns-in-Err-NoMemory-clause-keeps : goal.returns-in-Err-NoMemory-clause-keeps
-returns-in-Err-NoMemory-clause-keeps g c =
+pub returns-clause-keeps : goal.returns-clause-keeps
+returns-clause-keeps g c =
     subst (λ (v : StoreValue _). ChangesOnlyLogs (KeepsRest c.args.store.now v) task_stage.First task_stage.First (progress.Done (reply.Refused refusal.NoMemory)) c.args.store.now v (g.D.Disk.history c.args.store.now.disk) (g.D.Disk.history v.disk) (g.D.Disk.faults c.args.store.now.disk) (g.D.Disk.faults v.disk))
     (sym (c.in-Err-NoMemory.ensures.memory (ap Err c.in-Err-NoMemory.field-0-is)).0)
     (idle_keeps _ _ _ _ c.args.store.now _ _ (sym c.stopped.ensures ∙ c.if-stopped.false) (refused_not refusal.NoMemory (λ e. cc e)) refl)

@@ -1,4 +1,4 @@
-use Rattle.std.proofs.Common.{◌∙◌, ap, subst}
+use Rattle.std.proofs.Common.{◌∙◌, ap}
 use Rattle.mdbox_threads.proofs.TraceLemmas.{advanced_grows, grown_along, last_alone}
 use Rattle.mdbox_threads.proofs.alone.run_lane.Goals as goal
 

@@ -1,4 +1,4 @@
-use Rattle.std.proofs.Common.{◌∙◌, ◌≤◌, ◌≡◌, All, ap, arith, length, subst, sym, true}
+use Rattle.std.proofs.Common.{◌∙◌, ◌≤◌, All, ap, length, subst, sym, true}
 use Rattle.std.specs.Prelude.{sum_by}
 use denote.Param.Send.{sendable}
 use Rattle.turn_lock.specs.LockRule.{StartsWith}

@@ -1,5 +1,5 @@
 use denote.Param.Send.{sendable}
-use Rattle.std.proofs.Common.{◌≡◌, ◌+◌, ◌<◌, arith, length, slice_index_or, subst, sym}
+use Rattle.std.proofs.Common.{◌+◌, arith, slice_index_or, subst, sym}
 use Rattle.std.proofs.Crossing.{crosses}
 use Rattle.mdbox_threads.specs.Work.{HasWorkedAway, IsReadySeat}
 use Rattle.mdbox_threads.proofs.SendLemmas.{Handed-send, TurnLock-sync, TurnSeat-send}

@@ -16,11 +16,11 @@ returns-in_err-line-clause-err g c =
 pub returns-clause-ok : goal.returns-clause-ok
 returns-clause-ok g c =
     on_ok_weaker c.put_line.result
-    (λ given. passed_more _ _ _ c.args.writer.now.piece c.put_lines.new.writer.piece c.put_line.new.writer.piece _ _ c.in_ok-put_lines.ensures.ok (line_passed _ _ c.put_lines.new.writer.piece c.put_line.new.writer.piece c.in_ok-line.line _ c.in_ok-line.ensures given))
+    (λ given. passed_more _ _ _ c.args.writer.now.piece c.put_lines.new.writer.piece c.put_line.new.writer.piece _ _ c.in_ok-put_lines.ensures.ok (line_passed _ _ c.put_lines.new.writer.piece c.put_line.new.writer.piece c.numbers_line-line.result _ c.numbers_line-line.ensures given))
     c.put_line.ensures.ok
 
 pub returns-clause-err : goal.returns-clause-err
 returns-clause-err g c =
     on_err_weaker c.put_line.result
-    (λ given. cut_more _ _ _ c.args.writer.now.piece c.put_lines.new.writer.piece _ _ c.in_ok-put_lines.ensures.ok (line_cut _ _ c.put_lines.new.writer.piece c.in_ok-line.line _ c.in_ok-line.ensures given))
+    (λ given. cut_more _ _ _ c.args.writer.now.piece c.put_lines.new.writer.piece _ _ c.in_ok-put_lines.ensures.ok (line_cut _ _ c.put_lines.new.writer.piece c.numbers_line-line.result _ c.numbers_line-line.ensures given))
     c.put_line.ensures.err

@@ -8,13 +8,13 @@ use Rattle.request_text.proofs.reply_print.put_listing.Goals as goal
 
 pub returns-in_err-put_line-clause-err : goal.returns-in_err-put_line-clause-err
 returns-in_err-put_line-clause-err g c =
-    let p = err_from_is_err_and c.from_residual-in_err-put_line.result c.from_residual-in_err-put_line.ensures.1 in
-    let cut = line_cut _ _ c.args.writer.now.piece c.in_ok-line.line (ok_line (numbers_text (length c.args.rows.now ∷ []))) c.in_ok-line.ensures c.in_err-put_line.ensures.err in
+    let p = err_from_is_err_and c.from_residual.result c.from_residual.ensures.1 in
+    let cut = line_cut _ _ c.args.writer.now.piece c.numbers_line-line.result (ok_line (numbers_text (length c.args.rows.now ∷ []))) c.numbers_line-line.ensures c.in_err-put_line.ensures.err in
     rw p.1 (cut_before _ _ c.args.writer.now.piece (ok_line (numbers_text (length c.args.rows.now ∷ []))) (flat_map row_text c.args.rows.now) cut)
 
 pub loop-row-init : goal.loop-row-init
 loop-row-init g c = record {
-  passed = rows_begin row_text _ _ c.args.rows.now c.args.writer.now.piece c.put_line.new.writer.piece (line_passed _ _ c.args.writer.now.piece c.put_line.new.writer.piece c.in_ok-line.line (ok_line (numbers_text (length c.args.rows.now ∷ []))) c.in_ok-line.ensures c.in_ok-put_line.ensures.ok);
+  passed = rows_begin row_text _ _ c.args.rows.now c.args.writer.now.piece c.put_line.new.writer.piece (line_passed _ _ c.args.writer.now.piece c.put_line.new.writer.piece c.numbers_line-line.result (ok_line (numbers_text (length c.args.rows.now ∷ []))) c.numbers_line-line.ensures c.in_ok-put_line.ensures.ok);
   quiet = c.in_ok-put_line.ensures.quiet;
 }
 

@@ -1,5 +1,5 @@
-use Rattle.std.proofs.Common.{sym, string_bytes}
-use Rattle.request_text.proofs.WordsLemmas.{two_words, three_words, four_words, said_only, said_some}
+use Rattle.std.proofs.Common.{sym, refl, string_bytes}
+use Rattle.request_text.proofs.WordsLemmas.{two_words, three_and, said_only, said_some}
 use Rattle.request_text.proofs.words.read_words.Goals as goal
 
 pub returns-in-len2-clause-says : goal.returns-in-len2-clause-says
@@ -9,36 +9,18 @@ returns-in-len2-clause-says c =
     (sym c.as_str-in-len2.ensures.value)
     (sym c.as_bytes.ensures.value))
 
-pub returns-in-len4-clause-says : goal.returns-in-len4-clause-says
-returns-in-len4-clause-says c =
-    said_only c.read_four.result _ _ c.read_four.ensures.says
-    (four_words string_bytes c.args.words.now c.verb-item-then-words-lt5.result c.name-item-then-words-lt5.result c.uid-item-then-words-lt5.result c.last-item.result _ _ _ _ c.in-len4.len_at_least c.in-len4.len_below c.verb-item-then-words-lt5.is c.name-item-then-words-lt5.is c.uid-item-then-words-lt5.is c.last-item.is
-    (sym c.as_str-in-len4.ensures.value)
-    (sym c.as_bytes-in-len4.ensures.value)
-    (sym c.as_bytes-in-len4-2.ensures.value)
-    (sym c.as_bytes-in-len4-3.ensures.value))
+pub returns-in-len3-up-clause-says : goal.returns-in-len3-up-clause-says
+returns-in-len3-up-clause-says c =
+    said_only c.read_more.result _ _ c.read_more.ensures.says
+    (three_and string_bytes c.args.words.now _ c.verb-item-2.result c.first-item.result c.second-item.result _ _ _ c.in-len3-up.len_at_least c.verb-item-2.is c.first-item.is c.second-item.is refl
+    (sym c.as_str-in-len3-up.ensures.value)
+    (sym c.as_bytes-in-len3-up.ensures.value)
+    (sym c.as_bytes-in-len3-up-2.ensures.value))
 
-pub returns-in-len4-clause-memory : goal.returns-in-len4-clause-memory
-returns-in-len4-clause-memory c = λ e.
-    said_some _ _ (c.read_four.ensures.memory e)
-    (four_words string_bytes c.args.words.now c.verb-item-then-words-lt5.result c.name-item-then-words-lt5.result c.uid-item-then-words-lt5.result c.last-item.result _ _ _ _ c.in-len4.len_at_least c.in-len4.len_below c.verb-item-then-words-lt5.is c.name-item-then-words-lt5.is c.uid-item-then-words-lt5.is c.last-item.is
-    (sym c.as_str-in-len4.ensures.value)
-    (sym c.as_bytes-in-len4.ensures.value)
-    (sym c.as_bytes-in-len4-2.ensures.value)
-    (sym c.as_bytes-in-len4-3.ensures.value))
-
-pub returns-in-len3-clause-says : goal.returns-in-len3-clause-says
-returns-in-len3-clause-says c =
-    said_only c.read_three.result _ _ c.read_three.ensures.says
-    (three_words string_bytes c.args.words.now c.verb-item-then-words-lt4.result c.name-item.result c.uid-item.result _ _ _ c.in-len3.len_at_least c.in-len3.len_below c.verb-item-then-words-lt4.is c.name-item.is c.uid-item.is
-    (sym c.as_str-in-len3.ensures.value)
-    (sym c.as_bytes-in-len3.ensures.value)
-    (sym c.as_bytes-in-len3-2.ensures.value))
-
-pub returns-in-len3-clause-memory : goal.returns-in-len3-clause-memory
-returns-in-len3-clause-memory c = λ e.
-    said_some _ _ (c.read_three.ensures.memory e)
-    (three_words string_bytes c.args.words.now c.verb-item-then-words-lt4.result c.name-item.result c.uid-item.result _ _ _ c.in-len3.len_at_least c.in-len3.len_below c.verb-item-then-words-lt4.is c.name-item.is c.uid-item.is
-    (sym c.as_str-in-len3.ensures.value)
-    (sym c.as_bytes-in-len3.ensures.value)
-    (sym c.as_bytes-in-len3-2.ensures.value))
+pub returns-in-len3-up-clause-memory : goal.returns-in-len3-up-clause-memory
+returns-in-len3-up-clause-memory c = λ e.
+    said_some _ _ (c.read_more.ensures.memory e)
+    (three_and string_bytes c.args.words.now _ c.verb-item-2.result c.first-item.result c.second-item.result _ _ _ c.in-len3-up.len_at_least c.verb-item-2.is c.first-item.is c.second-item.is refl
+    (sym c.as_str-in-len3-up.ensures.value)
+    (sym c.as_bytes-in-len3-up.ensures.value)
+    (sym c.as_bytes-in-len3-up-2.ensures.value))

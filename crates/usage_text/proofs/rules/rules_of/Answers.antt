@@ -70,3 +70,6 @@ returns-in-text-2-clause-some c = (command.Version, sym c.in-text-2.is, refl)
 
 pub returns-in-boxes-clause-some : goal.returns-in-boxes-clause-some
 returns-in-boxes-clause-some c = (command.Boxes, sym c.in-boxes.is, refl)
+
+pub returns-in-keywords-clause-some : goal.returns-in-keywords-clause-some
+returns-in-keywords-clause-some c = (command.Keywords [] (record { 0 = 1 }) [], sym c.in-keywords.is, refl)

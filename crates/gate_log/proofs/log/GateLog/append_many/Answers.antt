@@ -1,41 +1,31 @@
-use Rattle.std.proofs.Common.{◌≡◌, ◌+◌, ◌*◌, ◌<◌, ◌≤◌, ◌^◌, [], ◌∷◌, ◌++◌, ℕ, List, length, take, sym, ap, subst, ◌∙◌, arith}
+use Rattle.std.proofs.Common.{◌≤◌, length, take, sym, ap, subst, ◌∙◌, arith}
 use Rattle.std.proofs.lemmas.List.{length-take-le}
 use Rattle.disk_model.proofs.OtherFileLemmas.{Apart, apart_begins, apart_goes_on, apart_fails, apart_fails_still, apart_images}
-use Rattle.model_logs.specs.LogFile.{opened}
 use Rattle.gate_log.specs.State.{LogState}
 use Rattle.gate_log.specs.Log.{Reads, cut_by}
 use Rattle.gate_log.specs.contracts.log.GateLog.{the_view}
 use Rattle.gate_log.proofs.HeadLemmas.{octets_of}
-use Rattle.gate_log.proofs.LayoutLemmas.{cut-fit, block_octets}
-use Rattle.gate_log.proofs.AppendLemmas.{IsLaidOut, block_is, fails_1, fails_2, fails_3, fails_4, goes_well, holds_then, reads_then, read_1, read_2, read_3, ask_2, ask_3}
+use Rattle.gate_log.proofs.LayoutLemmas.{cut_count}
+use Rattle.gate_log.proofs.AppendLemmas.{IsLaidOut, IsGrowth, laid_out, fails_1, fails_2, fails_3, fails_4, goes_well, holds_then, reads_then, read_1, read_2, read_3, ask_2, ask_3}
 use Rattle.gate_log.proofs.log.GateLog.append_many.Given.{Over}
 use Rattle.gate_log.proofs.log.GateLog.append_many.Goals.{After-deref, In_ok-write_at, In_ok-sync, In_ok-write_at-2, In_ok-sync-2}
 use Rattle.gate_log.proofs.log.GateLog.append_many.Goals as goal
 
--- the octets that are written for the entries
+-- how many octets are written for the entries, and how many entries these are
+fits : (g : Over) (c : After-deref g) → c.lay_out-size.result ≤ c.self.inside.buffer.len
+fits g c = omega (arith, ap (λ (s : LogState). s.room) c.self.view_is, c.lay_out-size.ensures.size, c.requires.room)
+
+growth : (g : Over) (c : After-deref g) → IsGrowth (cut_by c.args.lengths.now c.args.octets.now) (take c.lay_out-size.result c.deref.result.now) c.lay_out-size.result (length c.args.lengths.now)
+growth g c = record {
+  size_is = sym (length-take-le c.lay_out-size.result c.deref.result.now (omega (arith, fits g c, c.deref.ensures.len)));
+  count_is = sym (cut_count c.args.lengths.now c.args.octets.now);
+}
+
+-- and which
 laid : (g : Over) (c : After-deref g) → IsLaidOut (cut_by c.args.lengths.now c.args.octets.now) (take c.lay_out-size.result c.deref.result.now)
 laid g c =
-    let room : (the_view c.self.inside).room ≡ c.args.self.now.room = ap (λ (s : LogState). s.room) c.self.view_is in
-    let short : c.self.inside.buffer.len < 2 ^ 32 = c.self.invariant.1 in
-    let size : c.lay_out-size.result ≡ length c.args.octets.now + 5 * length c.args.lengths.now = c.lay_out-size.ensures.size in
-    let fits : c.lay_out-size.result ≤ c.self.inside.buffer.len = omega (arith, room, size, c.requires.room) in
-    let long : length c.lay_out-size.new.buffer ≡ c.self.inside.buffer.len = c.lay_out-size.auto.buffer ∙ c.deref_mut.ensures.len in
-    let block : take c.lay_out-size.result c.deref.result.now ≡ take c.lay_out-size.result c.lay_out-size.new.buffer =
-    block_is c.lay_out-size.result c.self.inside.buffer.len c.deref.result.now c.lay_out-size.new.buffer _ c.deref.ensures.value fits (omega (arith, long, fits)) in
-    let is : 1 ∷ take c.lay_out-size.result c.deref.result.now ≡ opened (cut_by c.args.lengths.now c.args.octets.now) ++ 0 ∷ [] = ap (λ (t : List ℕ). 1 ∷ t) block ∙ c.lay_out-size.ensures.laid in
-    record {
-      fit = cut-fit c.args.lengths.now c.args.octets.now c.requires.some c.requires.whole (omega (arith, short, fits, size));
-      is = is;
-      are_octets = block_octets c.args.lengths.now c.args.octets.now _ (octets_of c.args.octets.now c.type_inv.octets) is;
-    }
-
--- how many octets these are
-long : (g : Over) (c : After-deref g) → c.lay_out-size.result ≡ length (take c.lay_out-size.result c.deref.result.now)
-long g c =
-    let size : c.lay_out-size.result ≡ length c.args.octets.now + 5 * length c.args.lengths.now = c.lay_out-size.ensures.size in
-    let room : (the_view c.self.inside).room ≡ c.args.self.now.room = ap (λ (s : LogState). s.room) c.self.view_is in
-    let fits : c.lay_out-size.result ≤ length c.deref.result.now = omega (arith, room, size, c.requires.room, c.deref.ensures.len) in
-    sym (length-take-le c.lay_out-size.result c.deref.result.now fits)
+    laid_out c.args.lengths.now c.args.octets.now c.deref.result.now c.lay_out-size.new.buffer _ c.lay_out-size.result c.self.inside.buffer.len c.requires.some c.requires.whole (octets_of c.args.octets.now c.type_inv.octets)
+    c.lay_out-size.ensures.size (fits g c) c.self.invariant.1 (c.lay_out-size.auto.buffer ∙ c.deref_mut.ensures.len) c.deref.ensures.value c.lay_out-size.ensures.laid
 
 reads : (g : Over) (c : After-deref g) → Reads (the_view c.self.inside) c.requires.read.0 (g.D.Disk.history c.args.disk.now)
 reads g c = subst (λ (s : LogState). Reads s c.requires.read.0 (g.D.Disk.history c.args.disk.now)) (sym c.self.view_is) c.requires.read.1
@@ -100,11 +90,11 @@ returns-clause-others_stay g c = rw (← c.self.view_is) (apart_images _ _ _ (ap
 
 pub returns-clause-added : goal.returns-clause-added
 returns-clause-added g c = rw (← c.self.view_is) (λ entries h. reads_then (the_view c.self.inside) entries (cut_by c.args.lengths.now c.args.octets.now) (take c.lay_out-size.result c.deref.result.now) _ _ _ _ _
-    (laid g (goal.at.returns-clause-added g c).After-deref) _ (long g (goal.at.returns-clause-added g c).After-deref) h c.in_ok-write_at.ensures.state c.in_ok-sync.ensures.state c.in_ok-write_at-2.ensures.state c.in_ok-sync-2.ensures.state)
+    (laid g (goal.at.returns-clause-added g c).After-deref) _ _ (growth g (goal.at.returns-clause-added g c).After-deref) h c.in_ok-write_at.ensures.state c.in_ok-sync.ensures.state c.in_ok-write_at-2.ensures.state c.in_ok-sync-2.ensures.state)
 
 pub returns-clause-held : goal.returns-clause-held
 returns-clause-held g c = rw (← c.self.view_is) (λ entries h. holds_then (the_view c.self.inside) entries (cut_by c.args.lengths.now c.args.octets.now) (take c.lay_out-size.result c.deref.result.now) _ _ _ _ _
-    (laid g (goal.at.returns-clause-held g c).After-deref) _ (long g (goal.at.returns-clause-held g c).After-deref) h c.in_ok-write_at.ensures.state c.in_ok-sync.ensures.state c.in_ok-write_at-2.ensures.state c.in_ok-sync-2.ensures.state)
+    (laid g (goal.at.returns-clause-held g c).After-deref) _ _ (growth g (goal.at.returns-clause-held g c).After-deref) h c.in_ok-write_at.ensures.state c.in_ok-sync.ensures.state c.in_ok-write_at-2.ensures.state c.in_ok-sync-2.ensures.state)
 
 pub returns-clause-others : goal.returns-clause-others
 returns-clause-others g c = rw (← c.self.view_is) (apart_4 g (goal.at.returns-clause-others g c).In_ok-sync-2).same

@@ -1,8 +1,7 @@
-use Rattle.std.proofs.Common.{rules, ◌≡◌, ◌≤◌, ◌+◌, ◌*◌, [], ℕ, List, Option, None, length, replicate, vec_len, refl, sym, ◌∙◌, ap, subst, arith}
+use Rattle.std.proofs.Common.{rules, ◌≡◌, ℕ, List, Option, None, length, replicate, sym, ◌∙◌, ap, arith}
 use Rattle.mdbox_base.specs.declared.replies.Reply.{Reply}
 use Rattle.mdbox_base.specs.declared.script.JournalEntry.{JournalEntry}
 use Rattle.serving.specs.Turns.{LaneTurn}
-use Rattle.lanes.specs.Worlds.{AreRowsFrom}
 use Rattle.lanes.proofs.PartsLemmas.{parts_fresh, parts_of, replies_many}
 use Rattle.lanes.proofs.parts.WorldParts.of.Goals as goal
 

@@ -1,4 +1,4 @@
-use Rattle.std.proofs.Common.{◌≡◌, List, None, map, replicate, length, vec_len}
+use Rattle.std.proofs.Common.{◌≡◌, None, map, replicate, length, vec_len}
 use Rattle.lanes.proofs.replies.Replies.none.Given as goal
 
 abbrev pub invariant-loop : goal.invariant-loop

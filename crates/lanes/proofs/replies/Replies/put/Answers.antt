@@ -1,5 +1,5 @@
-use Rattle.std.proofs.Common.{◌≡◌, ◌<◌, List, length, map, slice_set, Option, Some, sym, ◌∙◌, ap, subst}
-use Rattle.std.proofs.lemmas.List.{length-map, length-set}
+use Rattle.std.proofs.Common.{◌<◌, List, length, map, slice_set, Option, Some, sym, ◌∙◌, ap, subst}
+use Rattle.std.proofs.lemmas.List.{length-set}
 use Rattle.std.specs.declared.snapshot.Snapshot.{Snapshot}
 use Rattle.mdbox_base.specs.declared.replies.Reply.{Reply}
 use Rattle.lanes.specs.Kept.{AreKeptOf, RepliesValue}

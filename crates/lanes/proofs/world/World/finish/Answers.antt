@@ -1,6 +1,6 @@
-use Rattle.std.proofs.Common.{◌++◌, ◌∷◌, [], ℕ, refl, sym, ◌∙◌, ap, subst}
-use Rattle.lanes.specs.Worlds.{GoesInRounds, IsNextBusy, WorldValue, world_value}
-use Rattle.lanes.proofs.RoundLemmas.{last_more, last_of, rounds_more}
+use Rattle.std.proofs.Common.{◌++◌, ◌∷◌, [], ℕ, refl, sym, ◌∙◌, subst}
+use Rattle.lanes.specs.Worlds.{GoesInRounds, IsNextBusy, WorldValue}
+use Rattle.lanes.proofs.RoundLemmas.{last_more, rounds_more}
 use Rattle.lanes.proofs.TraceLemmas.{as_finished, finishing}
 use Rattle.lanes.proofs.world.World.finish.Goals as goal
 

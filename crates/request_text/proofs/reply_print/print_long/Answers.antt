@@ -2,7 +2,7 @@ use Rattle.std.proofs.lemmas.Result.{on_err_weaker}
 use Rattle.piece_writer.proofs.PieceLemmas.{cut_end}
 use Rattle.request_text.specs.ReplyText.{reply_text}
 use Rattle.request_text.proofs.ReplyPrintLemmas.{from_empty}
-use Rattle.request_text.proofs.reply_print.print_reply.Goals as goal
+use Rattle.request_text.proofs.reply_print.print_long.Goals as goal
 
 pub returns-clause-err : goal.returns-clause-err
 returns-clause-err g c = on_err_weaker c.finish.result
