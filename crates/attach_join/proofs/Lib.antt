@@ -1,7 +1,8 @@
 pub mod CheckLemmas
-pub mod IntoLemmas
+pub mod FillLemmas
 pub mod JoinLemmas
+pub mod KeptLemmas
 pub mod OutsideLemmas
-pub mod LinesLemmas
 pub mod RestoredLemmas
 pub mod SpreadLemmas
+pub mod TextLemmas

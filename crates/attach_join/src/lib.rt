@@ -2,14 +2,15 @@
 #![tactic(auto)]
 
 pub use check::check_refs;
-pub use into::rejoin_into;
 pub use join::rejoin;
+pub use keeping::{fit_into, keep, spread_out};
 pub use restore::rejoin_detached;
 pub use spreading::{filled_is_whole, outside_stays, spread};
+pub use writing::write_texts;
 
 mod check;
-mod into;
 mod join;
-mod lines;
+mod keeping;
 mod restore;
 mod spreading;
+mod writing;

@@ -1,6 +1,7 @@
 -- Text in lines, written piece by piece into a slice.
-use Rattle.std.proofs.Common.{refl, ◌≡◌, ◌<◌, ◌≤◌, ◌+◌, ◌-◌, ◌*◌, ◌/◌, ℕ, List, [], ◌++◌, length, min, take, sym, ◌∙◌, ap, subst, arith, append_assoc, append-nil, length-append}
-use Rattle.std.proofs.lemmas.List.{length-take-le}
+use Rattle.std.proofs.Common.{refl, ◌≡◌, ◌<◌, ◌≤◌, ◌+◌, ◌-◌, ◌*◌, ◌/◌, ℕ, List, [], ◌++◌, length, min, take, drop, sym, ◌∙◌, ap, subst, arith, append_assoc, append-nil, length-append}
+use Rattle.std.proofs.Math.Seq.{drop-append-add}
+use Rattle.std.proofs.lemmas.List.{drop-drop, drop_all, length-drop, length-take-le, take_all}
 use Rattle.mdbox_base.specs.declared.metadata.LineForm.{LineForm}
 use Rattle.model_base64.specs.Base64Text.{line_break, padded, text_of, IsForm}
 use Rattle.model_base64.proofs.Base64Lemmas.{length-padded, line_last}
@@ -14,9 +15,28 @@ pub record ArePut (form : LineForm) (octets : List ℕ) (start : ℕ) (old rest 
   pub text : (more : List ℕ) → take at now ++ text_of form (rest ++ more) ≡ take start old ++ text_of form (octets ++ more)
   pub room : at + length (text_of form rest) ≤ length now
   pub size : length now ≡ length old
+  pub order : start ≤ at
+  pub behind : drop at now ≡ drop at old
+
+-- what stands behind one place stays, and so what stands behind a later one
+pub behind_later : (at next : ℕ) (old now : List ℕ) → at ≤ next → drop at now ≡ drop at old → drop next now ≡ drop next old
+behind_later at next old now le same =
+    let e : next ≡ at + (next - at) = omega (arith, le) in
+    ap (λ (n : ℕ). drop n now) e ∙ sym (drop-drop (next - at) at now) ∙ ap (drop (next - at)) same ∙ drop-drop (next - at) at old ∙ ap (λ (n : ℕ). drop n old) (sym e)
+
+-- what is behind the octets that were written from a place on
+pub behind_encoded : (at size count : ℕ) (old new : List ℕ) → at ≤ length old → length new ≡ length old - at → count ≡ length old - at → drop size new ≡ drop size (take count (drop at old)) → drop (at + size) (take at old ++ (new ++ drop count (drop at old))) ≡ drop (at + size) old
+behind_encoded at size count old new within long count_is same =
+    let left = length-drop at old in
+    let front : length (take at old) ≡ at = length-take-le at old within in
+    let none : drop count (drop at old) ≡ [] = drop_all count (drop at old) (omega (arith, left, count_is)) in
+    let all : take count (drop at old) ≡ drop at old = take_all count (drop at old) (omega (arith, left, count_is)) in
+    ap (λ (xs : List ℕ). drop (at + size) (take at old ++ (new ++ xs))) none ∙ ap (λ (xs : List ℕ). drop (at + size) (take at old ++ xs)) (append-nil new)
+    ∙ ap (λ (n : ℕ). drop (n + size) (take at old ++ new)) (sym front) ∙ drop-append-add (take at old) new size
+    ∙ same ∙ ap (drop size) all ∙ drop-drop size at old
 
 pub put_start : (form : LineForm) (octets : List ℕ) (start : ℕ) (old : List ℕ) → start + length (text_of form octets) ≤ length old → ArePut form octets start old octets start old
-put_start form octets start old room = record { text = λ more. refl; room = room; size = refl }
+put_start form octets start old room = record { text = λ more. refl; room = room; size = refl; order = omega arith; behind = refl }
 
 -- a full line in front of others
 line_of : (form : LineForm) (line behind more : List ℕ) → IsForm form → length line ≡ form.length / 4 * 3 → 0 < length behind → text_of form ((line ++ behind) ++ more) ≡ (padded line ++ line_break form.crlf) ++ text_of form (behind ++ more)
@@ -36,8 +56,8 @@ line_room form octets start old rest at now line behind good p parts size some =
     omega (arith, room, long)
 
 pub put_next : (form : LineForm) (octets : List ℕ) (start : ℕ) (old rest : List ℕ) (at : ℕ) (now line behind : List ℕ) (next : ℕ) (new : List ℕ) → IsForm form → ArePut form octets start old rest at now → rest ≡ line ++ behind → length line ≡ form.length / 4 * 3 → 0 < length behind
-    → take next new ≡ take at now ++ (padded line ++ line_break form.crlf) → next ≡ at + length (padded line ++ line_break form.crlf) → length new ≡ length now → ArePut form octets start old behind next new
-put_next form octets start old rest at now line behind next new good p parts size some put ends same =
+    → take next new ≡ take at now ++ (padded line ++ line_break form.crlf) → drop next new ≡ drop next now → next ≡ at + length (padded line ++ line_break form.crlf) → length new ≡ length now → ArePut form octets start old behind next new
+put_next form octets start old rest at now line behind next new good p parts size some put stays ends same =
     let room = p.room in
     let long : length (text_of form rest) ≡ length (padded line ++ line_break form.crlf) + length (text_of form behind) = ap (λ (xs : List ℕ). length (text_of form xs)) parts ∙ line_alone form line behind good size some in
     record {
@@ -46,6 +66,8 @@ put_next form octets start old rest at now line behind next new good p parts siz
           ∙ ap (λ (xs : List ℕ). take at now ++ xs) (sym (line_of form line behind more good size some)) ∙ ap (λ (xs : List ℕ). take at now ++ text_of form (xs ++ more)) (sym parts) ∙ p.text more;
       room = omega (arith, room, long, ends, same);
       size = same ∙ p.size;
+      order = let order = p.order in omega (arith, order, ends);
+      behind = stays ∙ behind_later at next old now (omega (arith, ends)) p.behind;
     }
 
 -- ---- a piece

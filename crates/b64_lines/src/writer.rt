@@ -1,5 +1,5 @@
 // Base64 text, written piece by piece into a slice.
-ghost use Rattle.std.specs.Prelude.{◌≡◌, ◌≤◌, ◌<◌, ◌+◌, ◌*◌, ◌/◌, ◌++◌, [], ℕ, List, length, take};
+ghost use Rattle.std.specs.Prelude.{◌≡◌, ◌≤◌, ◌<◌, ◌+◌, ◌*◌, ◌/◌, ◌++◌, [], ℕ, List, length, take, drop};
 ghost use Rattle.model_base64.specs.Base64Text.{IsForm, line_break, padded, text_of};
 ghost use Rattle.b64_lines.specs.Writer.{HasWrittenText};
 
@@ -48,10 +48,12 @@ impl LineWriter {
         }
     }
 
-    /// Writes the text of more octets behind what it has written, but for those that it keeps.
+    /// Writes the text of more octets behind what it has written, but for those that it keeps. What stands behind the text stays, so the
+    /// octets may have stood there.
     pub fn piece(&mut self, octets: &[u8], into: &mut [u8])
         requires room { (given : List ℕ) × HasWrittenText self.old given into.old × (length (text_of self.old.form (given ++ octets.now)) ≤ length into.old) }
         ensures written { (given : List ℕ) → HasWrittenText self.old given into.old → HasWrittenText self.new (given ++ octets.now) into.new }
+        ensures behind { drop self.new.at into.new ≡ drop self.new.at into.old }
         ensures form { self.new.form ≡ self.old.form }
         ensures size { length into.new ≡ length into.old }
     {
@@ -108,6 +110,7 @@ fn put_behind(line: &mut [u8; LONGEST], kept: usize, octets: &[u8]) -> usize
 fn put_encoded(into: &mut [u8], at: usize, octets: &[u8]) -> usize
     requires { at + length (padded octets.now) ≤ length into.old }
     ensures put { take result into.new ≡ take at into.old ++ padded octets.now }
+    ensures behind { drop result into.new ≡ drop result into.old }
     ensures end { result ≡ at + length (padded octets.now) }
     ensures size { length into.new ≡ length into.old }
 {
@@ -121,6 +124,7 @@ fn put_encoded(into: &mut [u8], at: usize, octets: &[u8]) -> usize
 fn put_line(into: &mut [u8], at: usize, octets: &[u8], crlf: bool) -> usize
     requires { at + length (padded octets.now ++ line_break crlf) ≤ length into.old }
     ensures put { take result into.new ≡ take at into.old ++ (padded octets.now ++ line_break crlf) }
+    ensures behind { drop result into.new ≡ drop result into.old }
     ensures end { result ≡ at + length (padded octets.now ++ line_break crlf) }
     ensures size { length into.new ≡ length into.old }
 {
@@ -141,6 +145,8 @@ fn put_lines<'a>(into: &mut [u8], at: usize, form: LineForm, octets: &'a [u8]) -
     requires room { at + length (text_of form octets.now) ≤ length into.old }
     ensures written { (more : List ℕ) → take result.0 into.new ++ text_of form (result.1.now ++ more) ≡ take at into.old ++ text_of form (octets.now ++ more) }
     ensures within { result.0 ≤ length into.new }
+    ensures behind { drop result.0 into.new ≡ drop result.0 into.old }
+    ensures order { at ≤ result.0 }
     ensures last { length result.1.now ≤ form.length / 4 * 3 }
     ensures size { length into.new ≡ length into.old }
 {

@@ -1,10 +1,10 @@
 -- The parts of the one message that a header and what follows it are.
-use Rattle.mail_fetch.proofs.Common.{◌≡◌, ◌≤◌, ◌<◌, ℕ, suc, List, [], ◌∷◌, ◌++◌, length, take, drop, refl, sym, ◌∙◌, ap, subst, arith, length-append, option_map_or, take-append_seam, Message, Metadata, InstRow, ExtRef, NameInstances, IsStoredMessage, StoredAt}
+use Rattle.mail_fetch.proofs.Common.{◌≡◌, ◌≤◌, ◌<◌, ℕ, suc, List, [], ◌∷◌, ◌++◌, length, take, drop, refl, sym, ◌∙◌, ap, subst, arith, length-append, option_map_or, Metadata, InstRow, ExtRef, NameInstances, IsStoredMessage, StoredAt}
 use Rattle.std.specs.Prelude.{Option, Some, None, IfNone}
 use Rattle.std.proofs.Math.Seq.{drop-append_seam}
 use Rattle.std.proofs.lemmas.List.{length-take-le, take-append-drop}
 use Rattle.model_octets.proofs.PiecesLemmas.{split_same}
-use Rattle.model_storage.specs.StorageFile.{Line, AreLines, IsBlock, IsMessageHeader, IsMessage}
+use Rattle.model_storage.specs.StorageFile.{Line, AreLines, IsBlock, IsMessageHeader}
 use Rattle.model_storage.specs.Metadata.{IsMetadata, IsMetadataText}
 use Rattle.model_storage.proofs.FileLemmas.{block_same, message_header_same}
 use Rattle.model_storage.proofs.MetadataLemmas.{lines_same, metadata_text_same}

@@ -1,5 +1,5 @@
 -- The events of a fetch, which read the disk at most.
-use Rattle.mail_fetch.proofs.Common.{◌≡◌, ◌+◌, ℕ, Bool, true, false, List, [], ◌∷◌, ◌++◌, Option, Some, None, refl, sym, ◌∙◌, ap, subst, arith, inl, inr, if◌then◌else◌, All-nil, History, Faults, DiskState, IsIdle, told_calls, Grows, NoFault, InstRow, Uid, Reply, Lists, MapRecord, MapMeaning}
+use Rattle.mail_fetch.proofs.Common.{◌≡◌, ℕ, Bool, true, false, List, [], ◌∷◌, ◌++◌, Option, Some, None, refl, sym, ◌∙◌, ap, subst, arith, inl, inr, if◌then◌else◌, All-nil, History, Faults, DiskState, IsIdle, told_calls, Grows, NoFault, InstRow, Uid, Reply, Lists, MapRecord, MapMeaning}
 use Rattle.mail_fetch.proofs.Common.{IsSettledFor, Leaves, EventPart, First, ReadsPiece, Unpins, RunEvent, Run, and_then, is_one_of, own_events, PartAnswers, IsReplyOf, Around, next_part, behind_event, piece_left, pieces_to_read, KnownInstance, Seen, HasComeTo, pins_of, unstepped}
 use Rattle.std.specs.Prelude.{◌≢◌, ◌↔◌, ◌⊎◌}
 use Rattle.disk_model.proofs.IdleLemmas.{idle-images}

@@ -1,5 +1,5 @@
 -- Which part of a fetch comes next, by its own events.
-use Rattle.mail_fetch.proofs.Common.{◌≡◌, ◌≤◌, ◌<◌, ◌==◌, ◌&&◌, ◌||◌, ℕ, Bool, true, false, not, cond, List, [], ◌∷◌, ◌++◌, ◌⊎◌, length, Option, Some, None, refl, sym, ◌∙◌, ap, subst, arith, inl, inr, All, sum_by, filter, nat_lt, if◌then◌else◌, list_any, option_or, eqb-true, common_steps, All-cons}
+use Rattle.mail_fetch.proofs.Common.{◌≡◌, ◌≤◌, ◌<◌, ◌==◌, ◌&&◌, ◌||◌, ℕ, Bool, true, false, cond, List, [], ◌∷◌, ◌++◌, ◌⊎◌, length, Option, Some, None, refl, sym, ◌∙◌, ap, subst, arith, inl, inr, All, sum_by, filter, nat_lt, if◌then◌else◌, list_any, option_or, eqb-true, common_steps, All-cons}
 use Rattle.mail_fetch.proofs.Common.{All-nil, All-head, All-tail, All-weaker, sum_by-cons, Uid, Refusal, Reply, EventPart, First, ReadsPiece, Unpins, RunEvent, Run, Pin, own_events, is_unpinning, has_unpinned, refusal_in, Around, next_part, behind_event, piece_left, last_refusal, parts_to_read}
 use Rattle.mail_fetch.proofs.Common.{pieces_left, one_pin, HasPinned, HasReadAllBut, UnpinsNext, StoredAt}
 use Rattle.std.specs.Prelude.{count_by, is_none}

@@ -1,7 +1,7 @@
 -- Whether a fetch that has unpinned removes its file next.
-use Rattle.mail_fetch.proofs.Common.{◌≡◌, ◌≢◌, ◌≤◌, ◌<◌, ◌+◌, ◌==◌, ◌&&◌, ◌||◌, ◌⊎◌, ℕ, Bool, true, false, not, List, [], ◌∷◌, ◌++◌, Option, Some, None, refl, sym, ◌∙◌, ap, subst, arith, inl, inr, All, nat_lt, if◌then◌else◌, list_any, option_or, cases_lt, eq-eqb, ne_eqb, All-cons, All-head, All-nil}
+use Rattle.mail_fetch.proofs.Common.{◌≡◌, ◌≢◌, ◌+◌, ◌==◌, ◌&&◌, ◌||◌, ℕ, Bool, true, false, not, List, [], ◌∷◌, ◌++◌, Option, Some, None, refl, sym, ◌∙◌, ap, subst, arith, inl, inr, All, nat_lt, if◌then◌else◌, list_any, option_or, cases_lt, eq-eqb, ne_eqb, All-cons, All-head, All-nil}
 use Rattle.mail_fetch.proofs.Common.{All-tail, Uid, Refusal, Reply, EventPart, Pin, RemovesFile, Run, RunEvent, and_then, has_unpinned, is_doomed, is_one_of, is_pinned, is_unpinning, own_events, Around, behind_event, last_refusal, leaves_doomed, next_part, refusal_in, own_more, own_other}
-use Rattle.mail_fetch.proofs.Common.{parts_to_read, pieces_left, HasPinned, RemovesNext, UnpinsNext, StoredAt}
+use Rattle.mail_fetch.proofs.Common.{parts_to_read, pieces_left, RemovesNext, UnpinsNext, StoredAt}
 use Rattle.std.proofs.lemmas.List.Elements.{All-append}
 use Rattle.std.proofs.lemmas.List.Folds.{list_any-append}
 use Rattle.mdbox_base.specs.declared.requests.Request.TheVariants as request

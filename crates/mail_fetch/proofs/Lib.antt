@@ -5,6 +5,7 @@ pub mod Common
 pub mod FetchEventLemmas
 pub mod FetchPartLemmas
 pub mod FirstEventLemmas
+pub mod HeldLemmas
 pub mod HoldLemmas
 pub mod InstanceLemmas
 pub mod LastPieceLemmas

@@ -42,7 +42,7 @@ forms_fit (ref ∷ refs) h = All-cons (λ (r : ExtRef). IfSome r.form IsForm) re
     one None f = tt
     one (Some form) f = f
 
-references_fit : (lines : List Line) (refs : List ExtRef) → HasReferences lines refs → All (λ ref. IfSome ref.form IsForm) refs
+pub references_fit : (lines : List Line) (refs : List ExtRef) → HasReferences lines refs → All (λ ref. IfSome ref.form IsForm) refs
 references_fit lines [] h = All-nil (λ (ref : ExtRef). IfSome ref.form IsForm)
 references_fit lines (ref ∷ refs) h = forms_fit (ref ∷ refs) h.2.fit
 
@@ -107,7 +107,7 @@ holds_joined from head read behind instances octets size refs at f w =
     (subst (λ (b : List ℕ). IsWhole octets b f.stored.meta.refs (octets_in from.instances instances)) f.body
     (subst (λ (rs : List ExtRef). IsWhole octets (take size behind) rs (octets_in from.instances instances)) f.refs_are w.0)) w.1
 
-joined_of_whole : (from : StoredAt) (head read behind instances octets : List ℕ) (size : ℕ) (refs : List ExtRef) → IsCutAt from head read behind instances → FoundStored from head behind size refs
+pub joined_of_whole : (from : StoredAt) (head read behind instances octets : List ℕ) (size : ℕ) (refs : List ExtRef) → IsCutAt from head read behind instances → FoundStored from head behind size refs
     → HoldsWhole from (head ++ read) octets → IsWhole octets (take size behind) refs (octets_in from.instances instances)
 joined_of_whole from head read behind instances octets size refs at f h =
     let (stored, whole) = held from (head ++ read) (head ++ behind) instances octets at.region at.rest h in

@@ -166,16 +166,17 @@ read_all parts left next len e each same = (
     by_place (inr le) empty = le
     by_place (inl lt) empty = absurd (let h = length-drop next parts in let k = ap (λ (ps : List Part). length ps) empty in omega (arith, h, k, lt, e))
 
--- The parts behind the first piece, as they stand in a vector that was changed through its slice.
+-- A vector that was changed through its slice.
+pub written_over_parts : (new there old : List Part) (len : ℕ) → len ≡ length old → there ≡ old → length new ≡ length there → take len (new ++ drop (length new) old) ≡ new
+written_over_parts new there old len e same long =
+    let many : length there ≡ length old = ap (λ (ps : List Part). length ps) same in
+    ap (λ (ps : List Part). take len (new ++ ps)) (drop_past (length new) old (omega (arith, long, many)))
+    ∙ (ap (take len) (append-nil new) ∙ take_all len new (omega (arith, e, long, many)))
+
+-- The parts behind the first piece, as they stand in such a vector.
 pub passed : (old new there left : List Part) (len next after : ℕ) → len ≡ length old → there ≡ old → length new ≡ length there → drop after new ≡ left_after (drop next there) → drop next old ≡ left → drop after (take len (new ++ drop (length new) old)) ≡ left_after left
 passed old new there left len next after e same long goes at =
-    ap (drop after) whole ∙ (goes ∙ (ap (λ (ps : List Part). left_after (drop next ps)) same ∙ ap left_after at))
-  where
-    whole : take len (new ++ drop (length new) old) ≡ new
-    whole =
-        let many : length there ≡ length old = ap (λ (ps : List Part). length ps) same in
-        ap (λ (ps : List Part). take len (new ++ ps)) (drop_past (length new) old (omega (arith, long, many)))
-        ∙ (ap (take len) (append-nil new) ∙ take_all len new (omega (arith, e, long, many)))
+    ap (drop after) (written_over_parts new there old len e same long) ∙ (goes ∙ (ap (λ (ps : List Part). left_after (drop next ps)) same ∙ ap left_after at))
 
 -- ---- all parts of a message
 
@@ -205,6 +206,17 @@ sum_of_parts f none from =
 
 pub total_of_parts : (from : StoredAt) → sum_by (λ part. part.size) (parts_to_read from) ≡ octets_to_read from
 total_of_parts from = sum_of_parts size_of_part (λ p e. e) from
+
+-- behind the region there are the instances
+pub behind_region : (from : StoredAt) → 1 ≤ from.size → sum_by (λ part. part.size) (drop 1 (parts_to_read from)) ≡ sum_by (λ row. row.size) from.instances
+behind_region from some = elim (filter_one from.size (region_part from) (map instance_part from.instances) refl) [
+  | inl e ↦
+      let total = total_of_parts from in
+      let all = ap (sum_by size_of_part) e in
+      let one = sum_by-cons size_of_part (region_part from) (filter has_octets (map instance_part from.instances)) in
+      ap (λ (ps : List Part). sum_by size_of_part (drop 1 ps)) e ∙ omega (arith, total, all, one)
+  | inr none ↦ absurd (let zero = none.0 in omega (arith, zero, some))
+]
 
 pub pieces_of_parts : (from : StoredAt) → pieces_left (parts_to_read from) ≡ pieces_in from.size + sum_by (λ row. pieces_in row.size) from.instances
 pieces_of_parts from = sum_of_parts (λ p. pieces_in p.size) (λ p e. ap pieces_in e) from

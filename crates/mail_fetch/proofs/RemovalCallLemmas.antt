@@ -1,7 +1,7 @@
 -- What a fetch says that removes the file which it has unpinned.
-use Rattle.mail_fetch.proofs.Common.{◌≡◌, ◌≢◌, ◌≤◌, ◌<◌, ◌+◌, ◌==◌, ◌&&◌, ◌||◌, ◌⊎◌, ℕ, Bool, true, false, List, [], ◌∷◌, ◌++◌, length, Option, Some, None, refl, sym, ◌∙◌, ap, subst, arith, inl, inr, All, is_some, if◌then◌else◌, option_and_then, option_map, option_map_or, cases_eq, eq-eqb, eqb-true}
-use Rattle.mail_fetch.proofs.Common.{ne_eqb, All-cons, All-contains, All-head, All-nil, All-tail, DiskState, Faults, Grows, History, IfTold, NoFault, InstRow, FileNo, Uid, Reply, Lists, MapRecord, record_at, found_one, IsSettledFor, Leaves, files_of, end_in, file_in, is_doomed_in, pins_in, MailFile}
-use Rattle.mail_fetch.proofs.Common.{file-gone, file-without, KeepsInstances, AreElsewhere, StoreValue, Claims, Due, Emptied, Held, Made, MovesClaims, Pinned, PlacingPieces, Removing, Taken, Thing, amount_in, no_claims, one_if, IsSameOrSynced, LeavesOthers, unraised_same, fetch_claims, FetchSteps}
+use Rattle.mail_fetch.proofs.Common.{◌≡◌, ◌≢◌, ◌≤◌, ◌<◌, ◌+◌, ◌==◌, ◌&&◌, ℕ, Bool, true, false, List, [], ◌∷◌, ◌++◌, Option, Some, None, refl, sym, ◌∙◌, ap, subst, arith, inl, inr, All, is_some, option_and_then, option_map, option_map_or, cases_eq, eq-eqb, eqb-true}
+use Rattle.mail_fetch.proofs.Common.{ne_eqb, All-cons, All-contains, All-nil, DiskState, Faults, Grows, History, IfTold, NoFault, InstRow, FileNo, Uid, Reply, Lists, MapRecord, record_at, found_one, IsSettledFor, Leaves, files_of, end_in, file_in, is_doomed_in, pins_in, MailFile}
+use Rattle.mail_fetch.proofs.Common.{file-gone, file-without, KeepsInstances, AreElsewhere, StoreValue, Claims, Due, Emptied, Held, Made, MovesClaims, Pinned, PlacingPieces, Removing, Taken, Thing, amount_in, no_claims, one_if, IsSameOrSynced, LeavesOthers, unraised_same, FetchSteps}
 use Rattle.mail_fetch.proofs.Common.{CanRemove}
 use Rattle.std.specs.Prelude.{IsSome}
 use Rattle.std.proofs.lemmas.List.{append-nil}
@@ -20,7 +20,7 @@ use Rattle.storage_files.specs.Files.{AreFilesInOrder, IsUsedFile, is_emptied_in
 use Rattle.store_core.specs.Keeping.{KeepsFirm}
 use Rattle.store_core.proofs.InstanceKeepingLemmas.{kept_same, reads_placed, syncs_placed}
 use Rattle.store_core.proofs.KnownInstanceLemmas.{firm_same}
-use Rattle.task_claims.specs.Claims.{OthersClaim, is_to_remove}
+use Rattle.task_claims.specs.Claims.{is_to_remove}
 use Rattle.task_claims.specs.Leaving.{HasRegionOctets, HaveSameInstances, LeavesFile, LeavesRecord, MayOnlyGrow, OnlyGrows, OthersTook}
 use Rattle.task_claims.proofs.GoneLemmas.{gone_stays}
 use Rattle.task_claims.proofs.RestLemmas.{instance_kept, none_placed}
@@ -28,7 +28,7 @@ use Rattle.mail_fetch.specs.Removal.{claims_of_removal}
 use Rattle.mail_fetch.specs.Task.{event_did}
 use Rattle.mail_fetch.specs.declared.task.FetchStage.TheVariants as stage
 use Rattle.mail_fetch.proofs.ClaimLemmas.{fall}
-use Rattle.mail_fetch.proofs.RemovalLemmas.{LeavesFailed, LeavesSettled, fail_steps, removing_steps}
+use Rattle.mail_fetch.proofs.RemovalLemmas.{fail_steps, removing_steps}
 use Rattle.mail_fetch.proofs.RemovalSeenLemmas.{without}
 use Rattle.mail_fetch.proofs.StageLemmas.{StepSays}
 

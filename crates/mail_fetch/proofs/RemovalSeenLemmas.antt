@@ -1,7 +1,7 @@
 -- What is seen of a store without one storage file, in a run of which the last event of a fetch removed that.
-use Rattle.mail_fetch.proofs.Common.{◌≡◌, ◌≤◌, ◌<◌, ◌+◌, ◌==◌, ◌&&◌, ◌||◌, ℕ, Bool, true, false, not, List, [], ◌∷◌, ◌++◌, Option, Some, None, refl, sym, ◌∙◌, ap, subst, arith, inl, inr, is_some, nat_lt, sum_by, list_any, option_map_or, option_and_then, cases_eq, eq-eqb, ne_eqb, common_steps}
-use Rattle.mail_fetch.proofs.Common.{sum_by-cons, Faults, History, told_calls, Reply, MapMeaning, RemovesFile, Run, RunEvent, and_then, is_doomed, is_one_of, end_in, file_in, is_doomed_in, pins_in, MailFile, file-gone, file-without, StoreValue, HasComeTo, seen_in}
-use Rattle.std.specs.Prelude.{◌≢◌, is_none, nat_le}
+use Rattle.mail_fetch.proofs.Common.{◌≡◌, ◌≤◌, ◌+◌, ◌==◌, ◌&&◌, ◌||◌, ℕ, Bool, true, false, not, List, [], ◌∷◌, ◌++◌, Option, Some, None, refl, sym, ◌∙◌, ap, subst, arith, inl, inr, is_some, nat_lt, sum_by, list_any, option_map_or, option_and_then, cases_eq, eq-eqb, ne_eqb, common_steps}
+use Rattle.mail_fetch.proofs.Common.{sum_by-cons, Faults, History, told_calls, Reply, MapMeaning, RemovesFile, Run, RunEvent, and_then, is_doomed, is_one_of, file_in, is_doomed_in, pins_in, MailFile, file-gone, file-without, StoreValue, HasComeTo, seen_in}
+use Rattle.std.specs.Prelude.{◌≢◌, nat_le}
 use Rattle.std.proofs.lemmas.List.Sums.{sum_by-append}
 use Rattle.model_meaning.specs.MapMeaning.{is_own, is_sealed, number_at}
 use Rattle.list_machine.specs.Run.{before, event_of, map_of}
@@ -9,9 +9,9 @@ use Rattle.journal.specs.Events.{begun_in, ended_in}
 use Rattle.journal.specs.Found.{is_known_file}
 use Rattle.journal.specs.Makes.{HasCome}
 use Rattle.journal.proofs.RunLemmas.{comes_on}
-use Rattle.store_core.specs.Knows.{knows_file, may_have_given}
+use Rattle.store_core.specs.Knows.{knows_file}
 use Rattle.store_seen.specs.Seeing.{may_be_barred, may_be_used}
-use Rattle.task_steps.specs.Step.{KeepsTasks, was_used}
+use Rattle.task_steps.specs.Step.{was_used}
 use Rattle.task_steps.proofs.SeenLemmas.{given_still, gone_still, pins_still, placed_still}
 use Rattle.mail_fetch.specs.Removal.{with_file_gone}
 use Rattle.mail_fetch.proofs.LastPinLemmas.{any_push, or_none, or_true}

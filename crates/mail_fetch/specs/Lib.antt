@@ -2,6 +2,7 @@ pub mod Claims
 pub mod Clause
 pub mod Events
 pub mod Failed
+pub mod Held
 pub mod Parts
 pub mod Region
 pub mod Removal

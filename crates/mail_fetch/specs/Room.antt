@@ -1,7 +1,6 @@
 -- The memory of a fetch, which its first event takes.
-use Rattle.std.specs.Prelude.{◌≡◌, ◌≢◌, ◌≤◌, ◌<◌, ◌+◌, ◌^◌, ◌++◌, ℕ, List, [], length, sum_by, All, vec_capacity}
+use Rattle.std.specs.Prelude.{◌≡◌, ◌≤◌, ◌<◌, ◌+◌, ◌^◌, ℕ, List, [], length, sum_by, All, vec_capacity}
 use Rattle.std.specs.Global.{Vec}
-use Rattle.mdbox_base.specs.declared.metadata.ExtRef.{ExtRef}
 use Rattle.mail_fetch.specs.Parts.{octets_to_read}
 use Rattle.mail_fetch.specs.declared.parts.Part.{Part}
 use Rattle.mail_fetch.specs.declared.parts.StoredAt.{StoredAt}
@@ -17,17 +16,9 @@ pub record IsCut (head octets : List ℕ) : Type 0 where
   pub most : length head ≤ 30
   pub order : length head < 30 → octets ≡ []
 
--- There is room for all octets that are to be read, of which these were, the header first, and these parts are left.
-pub record HasReadRoom (from : StoredAt) (total : ℕ) (head octets : Vec ℕ) (left : List Part) : Type 0 where
+-- So many octets are to be read, of which these were, and these parts are left.
+pub record HasLeft (from : StoredAt) (total : ℕ) (head : Vec ℕ) (read : List ℕ) (left : List Part) : Type 0 where
   pub total_is : total ≡ octets_to_read from
   pub head_room : 30 ≤ vec_capacity head
-  pub room : total ≤ vec_capacity octets
-  pub fits : length (head.items ++ octets.items) + sum_by (λ part. part.size) left ≤ total
+  pub fits : length read + sum_by (λ part. part.size) left ≤ total
   pub each : All IsPart left
-
--- There is room for as many references as the record has instances, and for the whole if it has any.
-pub record HasJoinRoom (from : StoredAt) (refs : Vec ExtRef) (whole : Vec ℕ) : Type 0 where
-  pub no_refs : refs.items ≡ []
-  pub refs_room : length from.instances ≤ vec_capacity refs
-  pub no_octets : whole.items ≡ []
-  pub whole_room : from.instances ≢ [] → from.listed ≤ vec_capacity whole

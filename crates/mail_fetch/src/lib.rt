@@ -11,6 +11,7 @@ pub use task::{FetchStage, FetchTask};
 
 mod claim;
 mod first;
+mod held;
 mod laws;
 mod message;
 mod parts;

@@ -1,16 +1,20 @@
 // The message in the octets that a fetch has read.
-ghost use Rattle.std.specs.Prelude.{◌≡◌, ◌≤◌, ◌+◌, ◌++◌, ◌↔◌, ℕ, List, [], All, IsTrue, length, take, drop, vec_capacity, IfSome, IfNone, Some};
+ghost use Rattle.std.specs.Prelude.{◌≡◌, ◌≢◌, ◌≤◌, ◌+◌, ◌++◌, ◌↔◌, ℕ, List, [], All, IsTrue, true, false, length, take, vec_capacity, IfSome, IfNone, Some};
 ghost use Rattle.std.specs.Option.{option_map_or};
 ghost use Rattle.attach_join.specs.Behind.{octets_in};
+ghost use Rattle.attach_join.specs.Kept.{FitInto, kept_in};
+ghost use Rattle.attach_join.specs.Spread.{outside};
 ghost use Rattle.model_attach.specs.Rejoined.{IsWhole};
 ghost use Rattle.model_base64.specs.Base64Text.{IsForm};
 ghost use Rattle.model_store.specs.Stands.{NameInstances};
+ghost use Rattle.mail_fetch.specs.Held.{IsHeld, IsUnknown, octets_held};
 ghost use Rattle.mail_fetch.specs.Parts.{octets_to_read};
 ghost use Rattle.mail_fetch.specs.Region.{HoldsWhole, IsStoredMessage, IsToldByLines};
-ghost use Rattle.mail_fetch.specs.Room.{HasJoinRoom, IsCut};
+ghost use Rattle.mail_fetch.specs.Room.{IsCut};
 
+use crate::held::{Held, settled};
 use crate::parts::StoredAt;
-use attach_join::rejoin_into;
+use attach_join::write_texts;
 use dbox_file::{header_size, lines_in};
 use dbox_metadata::{Brief, read_brief};
 use mdbox_base::{ExtRef, Guid, InstRow};
@@ -18,20 +22,81 @@ use mdbox_base::{ExtRef, Guid, InstRow};
 /// How many octets a message's header has.
 pub const HEADER: usize = 30;
 
-/// The octets of the message that was read: its header, and behind it the rest of the region and the instances, one behind another.
-/// None if and only if it isn't the one that is stored there. It takes no memory: the body of a message without attachments stays
-/// where it lies, else region and instances are joined in `whole`.
+/// The octets of the message that was read: its header, and what is held behind it. None if and only if it isn't the one that is stored
+/// there. It takes no memory: the body of a message without attachments stays where it lies, and the texts of instances are written over
+/// the ranges that their octets are kept in.
 pub fn message_of(
+    from: &StoredAt,
+    head: &[u8],
+    held: Held,
+    total: usize,
+    block: &mut [u8],
+) -> Option<Vec<u8>>
+    requires held { (left : ℕ) × IsHeld from.now head.now left held }
+    requires region { IsUnknown held → from.now.instances ≢ [] → length (head.now ++ octets_held from.now.instances held) ≤ from.now.size }
+    requires total { total ≡ octets_to_read from.now }
+    requires block { 1 ≤ length block.old }
+    ensures some { IfSome result (λ octets. HoldsWhole from.now (head.now ++ octets_held from.now.instances held) octets.items) }
+    ensures none { IfNone result ((octets : List ℕ) → HoldsWhole from.now (head.now ++ octets_held from.now.instances held) octets → ⊥) }
+{
+    match settled(from, head, held) {
+        Held::AsRead {
+            octets,
+            refs,
+            tail: _,
+        } => message_alone(from, head, octets, total, refs),
+        Held::Spread {
+            whole,
+            refs,
+            tail: _,
+            kept,
+        } => joined(
+            from,
+            whole,
+            &refs,
+            kept == total - from.size as usize,
+            block,
+        ),
+        Held::Damaged { .. } => None,
+    }
+}
+
+/// The whole, once all octets of the instances are kept.
+fn joined(
+    from: &StoredAt,
+    whole: Vec<u8>,
+    refs: &[ExtRef],
+    is_all: bool,
+    block: &mut [u8],
+) -> Option<Vec<u8>>
+    requires fit { (stored : ℕ) × FitInto (length whole.items) stored refs.now from.now.instances }
+    requires forms { All (λ ref. IfSome ref.form IsForm) refs.now }
+    requires block { 1 ≤ length block.old }
+    ensures some { IfSome result (λ octets. (is_all ≡ true) × (length octets.items ≡ length whole.items) × IsWhole octets.items (outside refs.now whole.items) refs.now (octets_in from.now.instances (kept_in refs.now from.now.instances whole.items))) }
+    ensures none { IfNone result (is_all ≡ false) }
+{
+    if !is_all {
+        return None;
+    }
+    let mut whole = whole;
+    write_texts(&mut whole, refs, from.instances.as_slice(), block);
+    Some(whole)
+}
+
+/// The octets of a message without attachments that was read: its header, and behind it the rest of the region. None if and only if
+/// it isn't the one that is stored there.
+fn message_alone(
     from: &StoredAt,
     head: &[u8],
     read: Vec<u8>,
     total: usize,
     refs: Vec<ExtRef>,
-    whole: Vec<u8>,
 ) -> Option<Vec<u8>>
+    requires alone { from.now.instances ≡ [] }
     requires cut { IsCut head.now read.items }
     requires total { total ≡ octets_to_read from.now }
-    requires room { HasJoinRoom from.now refs whole }
+    requires empty { refs.items ≡ [] }
+    requires room { length from.now.instances ≤ vec_capacity refs }
     ensures some { IfSome result (λ octets. HoldsWhole from.now (head.now ++ read.items) octets.items) }
     ensures none { IfNone result ((octets : List ℕ) → HoldsWhole from.now (head.now ++ read.items) octets → ⊥) }
 {
@@ -39,13 +104,8 @@ pub fn message_of(
     if head.len() + read.len() != total {
         return None;
     }
-    let (size, refs) = stored_message(from, head, &read[..behind], refs)?;
-    if from.instances.length() == 0 {
-        body_alone(read, size, from.listed as usize)
-    } else {
-        let (region, instances) = read.split_at(behind);
-        rejoined(from, &region[..size], instances, &refs, whole)
-    }
+    let (size, _) = stored_message(from, head, &read[..behind], refs)?;
+    body_alone(read, size, from.listed as usize)
 }
 
 /// The body of a message without attachments, if it has the size that is told.
@@ -62,40 +122,9 @@ fn body_alone(read: Vec<u8>, size: usize, listed: usize) -> Option<Vec<u8>>
     Some(octets)
 }
 
-/// The whole of a region's body, its references, and the instances, one behind another.
-fn rejoined(
-    from: &StoredAt,
-    body: &[u8],
-    instances: &[u8],
-    refs: &[ExtRef],
-    whole: Vec<u8>,
-) -> Option<Vec<u8>>
-    requires read { from.now.size + length instances.now ≡ octets_to_read from.now }
-    requires forms { All (λ ref. IfSome ref.form IsForm) refs.now }
-    requires empty { whole.items ≡ [] }
-    requires room { from.now.listed ≤ vec_capacity whole }
-    ensures some { IfSome result (λ octets. IsWhole octets.items body.now refs.now (octets_in from.now.instances instances.now) × (length octets.items ≡ from.now.listed)) }
-    ensures none { IfNone result ((octets : List ℕ) → IsWhole octets body.now refs.now (octets_in from.now.instances instances.now) → length octets ≡ from.now.listed → ⊥) }
-{
-    let mut whole = whole;
-    let rows = from.instances.as_slice();
-    if rejoin_into(
-        &mut whole,
-        from.listed as usize,
-        body,
-        refs,
-        rows,
-        instances,
-    ) {
-        Some(whole)
-    } else {
-        None
-    }
-}
-
 /// How many octets the body of the one message has that a header and what follows it are, and its references, where it is the one
 /// that is stored there.
-fn stored_message(
+pub fn stored_message(
     from: &StoredAt,
     head: &[u8],
     behind: &[u8],

@@ -1,5 +1,5 @@
 // What a fetch reads of a message, part by part.
-ghost use Rattle.std.specs.Prelude.{◌≡◌, ◌≤◌, ◌<◌, ◌++◌, ◌∷◌, [], length, min, filter, take, drop, All, IfOk, IfSome, OnOk, IsErr};
+ghost use Rattle.std.specs.Prelude.{◌≡◌, ◌≤◌, ◌<◌, ◌⊎◌, ◌+◌, ◌++◌, ◌∷◌, [], length, min, filter, take, drop, All, IfOk, IfSome, OnOk, IsErr};
 ghost use Rattle.disk_model.specs.Disk.{IfTold, IsIdle};
 ghost use Rattle.disk_model.specs.FaultCounts.{NoFault, ReadFaultCounted};
 ghost use Rattle.model_store.specs.Settled.{files_of};
@@ -133,6 +133,8 @@ pub fn pass_piece(parts: &mut [Part], next: usize) -> usize
     requires place { next < length parts.old }
     requires range { All IsPart (drop next parts.old) }
     ensures left { drop result parts.new ≡ left_after (drop next parts.old) }
+    ensures next { (result ≡ next) ⊎ (result ≡ next + 1) }
+    ensures behind { drop (next + 1) parts.new ≡ drop (next + 1) parts.old }
     ensures within { result ≤ length parts.new }
 {
     let part = parts[next];

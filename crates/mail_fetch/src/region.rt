@@ -1,21 +1,26 @@
 // A message that is read piece by piece: its region, and behind it each instance.
-ghost use Rattle.std.specs.Prelude.{◌≡◌, ◌≤◌, ◌<◌, ◌+◌, ◌++◌, ◌↔◌, length, ℕ, List, All, IsTrue, IfOk, IsErr, OnOk, vec_capacity};
+ghost use Rattle.std.specs.Prelude.{◌≡◌, ◌≢◌, ◌≤◌, ◌<◌, ◌↔◌, [], length, ℕ, List, All, IsTrue, IfOk, IsErr, OnOk};
 ghost use Rattle.disk_model.specs.Disk.{IfTold, IsIdle};
 ghost use Rattle.disk_model.specs.FaultCounts.{NoFault, ReadFaultCounted};
 ghost use Rattle.mail_fetch.specs.Events.{next_piece, with_piece};
-ghost use Rattle.mail_fetch.specs.Parts.{KnowsSource, pieces_left};
+ghost use Rattle.mail_fetch.specs.Held.{IsHeld, IsUnknown, octets_held};
+ghost use Rattle.mail_fetch.specs.Parts.{KnowsSource, octets_to_read, pieces_left};
 ghost use Rattle.mail_fetch.specs.Region.{unread, IsReplyFor};
-ghost use Rattle.mail_fetch.specs.Room.{IsCut};
 ghost use Rattle.mail_fetch.specs.Task.{most_pieces};
 
+use crate::held::{Held, settled_if, with_piece};
 use crate::message::{HEADER, message_of};
 use crate::parts::{PIECE, Part, StoredAt, octets_to_read, parts_to_read, pass_piece, read_first};
 use disk_model::Disk;
-use mdbox_base::{ExtRef, NoMemory, Octets, Refusal, Reply};
+use mdbox_base::{NoMemory, Octets, Refusal, Reply};
 use std::alloc::Global;
 use std::marker::Model;
+use std::mem;
 use storage_files::DiskFault;
 use store_core::Store;
+
+/// How many octets of metadata a message has at the most.
+const METADATA: usize = 1_048_576;
 
 /// A message, as far as it was read.
 #[derive(Drop)]
@@ -23,31 +28,28 @@ pub struct Region {
     from: StoredAt,
     /// The first octets that were read: the message's header.
     head: Vec<u8>,
-    /// Those behind it, with room for all.
-    octets: Vec<u8>,
+    /// What was read behind it.
+    held: Held,
     /// How many octets are to be read.
     total: usize,
     /// What is read, of which the parts before `next` are done.
     parts: Vec<Part>,
     next: usize,
-    /// With room for the references.
-    refs: Vec<ExtRef>,
-    /// With room for the message, if it has attachments. Else it is replied where it was read.
-    whole: Vec<u8>,
     /// What a piece is read into.
     block: Vec<u8>,
 }
 
 impl Model for Region {
-    ghost use Rattle.std.specs.Prelude.{◌≡◌, ◌++◌, drop, length};
+    ghost use Rattle.std.specs.Prelude.{◌≡◌, ◌≢◌, ◌++◌, [], drop, length, sum_by};
+    ghost use Rattle.mail_fetch.specs.Held.{IsHeld, IsUnknown, instance_octets, octets_held};
     ghost use Rattle.mail_fetch.specs.Region.{RegionValue};
-    ghost use Rattle.mail_fetch.specs.Room.{HasJoinRoom, HasReadRoom, IsCut};
+    ghost use Rattle.mail_fetch.specs.Room.{HasLeft};
 
     ghost Value = { RegionValue };
 
-    ghost view = { λ region. record { from = region.from; octets = region.head.items ++ region.octets.items; left = drop region.next region.parts.items } };
+    ghost view = { λ region. record { from = region.from; octets = region.head.items ++ octets_held region.from.instances region.held; left = drop region.next region.parts.items } };
 
-    ghost invariant = { λ region. HasReadRoom region.from region.total region.head region.octets (drop region.next region.parts.items) × IsCut region.head.items region.octets.items × HasJoinRoom region.from region.refs region.whole × (length region.block.items ≡ 65536) };
+    ghost invariant = { λ region. HasLeft region.from region.total region.head (region.head.items ++ octets_held region.from.instances region.held) (drop region.next region.parts.items) × IsHeld region.from region.head.items (sum_by (λ part. part.size) (drop region.next region.parts.items)) region.held × (IsUnknown region.held → region.from.instances ≢ [] → (region.next ≡ 0) × (sum_by (λ part. part.size) (drop 1 region.parts.items) ≡ instance_octets region.from)) × (length region.block.items ≡ 65536) };
 }
 
 impl Region {
@@ -58,16 +60,12 @@ impl Region {
     {
         let total = octets_to_read(&from).ok_or(NoMemory)?;
         let parts = parts_to_read(alloc, &from)?;
-        let instances = from.instances.length();
-        let whole = if instances > 0 { from.listed } else { 0 };
         Ok(Region {
             head: Vec::with_capacity(alloc, HEADER)?,
-            octets: Vec::with_capacity(alloc, total)?,
+            held: nothing_held(alloc, &from, total)?,
             total,
             parts,
             next: 0,
-            refs: Vec::with_capacity(alloc, instances)?,
-            whole: Vec::with_capacity(alloc, whole as usize)?,
             block: vec![in alloc; 0; PIECE as usize]?,
             from,
         })
@@ -93,8 +91,13 @@ impl Region {
     {
         let part = self.parts[self.next];
         let count = read_first(store, part, &mut self.block)?;
-        add_piece(&mut self.head, &mut self.octets, &self.block[..count]);
+        let nothing = Held::Damaged {
+            octets: Vec::new(store.alloc()),
+        };
+        let held = mem::replace(&mut self.held, nothing);
+        let held = with_piece(&self.from, &mut self.head, held, &self.block[..count]);
         self.next = pass_piece(&mut self.parts, self.next);
+        self.held = settled_if(self.next > 0, &self.from, &self.head, held);
         Ok(())
     }
 
@@ -121,15 +124,14 @@ impl Region {
         let Region {
             from,
             head,
-            octets,
+            held,
             total,
             parts: _,
             next: _,
-            refs,
-            whole,
-            block: _,
+            block,
         } = self;
-        let reply = match message_of(&from, &head, octets, total, refs, whole) {
+        let mut block = block;
+        let reply = match message_of(&from, &head, held, total, &mut block) {
             Some(octets) => Reply::Fetched(Octets::of(octets)),
             None => Reply::Refused(Refusal::Damaged {
                 file: from.file,
@@ -140,29 +142,29 @@ impl Region {
     }
 }
 
-/// Adds a piece behind what was read: what belongs to the header there, and the rest behind it.
-fn add_piece(head: &mut Vec<u8>, octets: &mut Vec<u8>, piece: &[u8])
-    requires cut { IsCut head.old.items octets.old.items }
-    requires head_room { 30 ≤ vec_capacity head.old }
-    requires room { length (head.old.items ++ octets.old.items) + length piece.now ≤ vec_capacity octets.old }
-    ensures cut { IsCut head.new.items octets.new.items }
-    ensures read { head.new.items ++ octets.new.items ≡ (head.old.items ++ octets.old.items) ++ piece.now }
-    ensures head_room { vec_capacity head.old ≤ vec_capacity head.new }
-    ensures room { vec_capacity octets.old ≤ vec_capacity octets.new }
+/// Nothing that was read, with room for all octets that come.
+fn nothing_held(alloc: Global, from: &StoredAt, total: usize) -> Result<Held, NoMemory>
+    requires { total ≡ octets_to_read from.now }
+    ensures none { IfOk result (λ held. octets_held from.now.instances held ≡ []) }
+    ensures held { IfOk result (λ held. (left : ℕ) → IsHeld from.now [] left held) }
+    ensures long { IfOk result (λ held. IsUnknown held → from.now.instances ≢ [] → 30 ≤ from.now.size) }
 {
-    let missing = HEADER - head.len();
-    let (front, behind) = piece.split_at(piece.len().min(missing));
-    put(head, front);
-    put(octets, behind);
-}
-
-/// Adds octets at the end, where there is room for them.
-fn put(out: &mut Vec<u8>, octets: &[u8])
-    requires { length out.old.items + length octets.now ≤ vec_capacity out.old }
-    ensures octets { out.new.items ≡ out.old.items ++ octets.now }
-    ensures room { vec_capacity out.old ≤ vec_capacity out.new }
-{
-    let Ok(()) = out.extend_from_slice(octets) else {
-        unreachable!()
-    };
+    let count = from.instances.length();
+    let size = from.size as usize;
+    if count == 0 {
+        return Ok(Held::AsRead {
+            octets: Vec::with_capacity(alloc, total)?,
+            refs: Vec::with_capacity(alloc, 0)?,
+            tail: Vec::with_capacity(alloc, 0)?,
+        });
+    }
+    let octets = Vec::with_capacity(alloc, total.max(from.listed as usize))?;
+    if size < HEADER {
+        return Ok(Held::Damaged { octets });
+    }
+    Ok(Held::AsRead {
+        octets,
+        refs: Vec::with_capacity(alloc, count)?,
+        tail: Vec::with_capacity(alloc, METADATA.min(size))?,
+    })
 }

@@ -180,8 +180,8 @@ fn print_long<O: Sink>(alloc: Global, output: &mut O, reply: &Reply) -> Result<(
     writer.finish(output)
 }
 
-/// Prints the reply to a fetch that is a request of its own: of a message that was fetched the octets alone, from where they lie. Only a
-/// listing takes memory.
+/// Prints the reply to a fetch that is a request of its own: of a message that was fetched the octets alone, from where they lie. It can
+/// be out of memory only at a listing or a message.
 pub fn print_fetch_alone<O: Sink>(
     alloc: Global,
     output: &mut O,

@@ -1,9 +1,8 @@
 -- A store that makes or extends a draft of a mailbox log, by what the calls have at hand.
-use Rattle.store_core.proofs.Common.{◌≡◌, ◌≢◌, ◌<◌, ◌≤◌, ℕ, false, List, [], ◌∷◌, ◌++◌, map, Option, All, refl, sym, ◌∙◌, ap, subst, arith, All-nil, All-weaker, map-append, History, SameButFor, Highest, BoxEntry, box_text, BoxInRange, BoxMeaning, box_applied, box_meaning, row_made}
-use Rattle.store_core.proofs.Common.{HasItsRecord, LogState, Holds, MapBox, MapMeaning, LogHead, head_of, OthersAreNamed, KeepsMadeLogs, has_made_log, StoreValue, OpenBox}
+use Rattle.store_core.proofs.Common.{◌≡◌, ◌≢◌, ◌<◌, ◌≤◌, ℕ, false, List, [], ◌++◌, map, Option, All, sym, ◌∙◌, ap, subst, arith, All-nil, All-weaker, map-append, History, SameButFor, Highest, BoxEntry, box_text, BoxInRange, BoxMeaning, box_applied, box_meaning, row_made}
+use Rattle.store_core.proofs.Common.{HasItsRecord, LogState, Holds, MapBox, MapMeaning, head_of, OthersAreNamed, KeepsMadeLogs, has_made_log, StoreValue, OpenBox}
 use Rattle.std.proofs.Common.{fold, Result, Ok, Err, OnOk}
 use Rattle.std.specs.List.{AllByRecursion}
-use Rattle.std.specs.Prelude.{max}
 use Rattle.disk_model.specs.declared.name.FileName.TheVariants as file
 use Rattle.gate_log.specs.Log.{Drafts}
 use Rattle.gate_log.proofs.DraftLemmas.{held_draft}

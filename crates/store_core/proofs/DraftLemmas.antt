@@ -10,7 +10,6 @@ use Rattle.gate_log.specs.Log.{Drafts, IsLogDrafted, cut_by}
 use Rattle.mdbox_base.specs.declared.entries.BoxEntry.TheVariants as entry
 use Rattle.model_appends.proofs.AppendOpenLemmas.{box_more_good, rows_have}
 use Rattle.model_meaning.proofs.BoxLemmas.{box_more}
-use Rattle.model_meaning.specs.BoxMeaning.{BoxFits}
 use Rattle.model_store.specs.Opening.{AreBoxEntries}
 use Rattle.store_core.specs.Drafts.{AllFitBehind, AreLaidOut}
 use Rattle.store_core.specs.MapDrafts.{AllMapFitBehind, HasRoomForAll, rooms_of}

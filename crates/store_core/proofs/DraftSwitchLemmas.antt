@@ -1,6 +1,6 @@
 -- A switch to a draft in three steps: its sync, the entry that names it, and the removal of the old log.
-use Rattle.store_core.proofs.Common.{◌⊎◌, inl, inr, ◌≡◌, ◌≢◌, ◌<◌, ◌≤◌, ◌+◌, ◌-◌, ◌==◌, ℕ, Bool, true, false, if◌then◌else◌, List, [], ◌∷◌, map, find, Option, Some, None, All, refl, sym, ◌∙◌, ap, subst, arith, All-head, All-tail, All-cons, All-nil, All-weaker, All-contains, sum_by, count_by, sum_by-cons}
-use Rattle.store_core.proofs.Common.{Files, DiskState, History, IfTold, Between, between-on, SameButFor, FileName, named, each_image-map, OthersAreNamed, BoxEntry, BoxNo, Lists, LogRow, BoxMeaning, rows_after, MapBox, MapRecord, MapMeaning, map_applied, HasItsRecord, IsAccounted, Safe, files_of, Leaves, KeepsStored, StoresMessage}
+use Rattle.store_core.proofs.Common.{◌⊎◌, inl, inr, ◌≡◌, ◌≢◌, ◌<◌, ◌≤◌, ◌+◌, ◌-◌, ◌==◌, ℕ, Bool, true, false, if◌then◌else◌, List, [], ◌∷◌, map, find, Option, Some, None, All, refl, sym, ◌∙◌, ap, subst, arith, All-head, All-tail, All-cons, All-nil, All-contains, sum_by, count_by, sum_by-cons}
+use Rattle.store_core.proofs.Common.{DiskState, History, IfTold, Between, between-on, SameButFor, FileName, named, each_image-map, OthersAreNamed, BoxEntry, BoxNo, Lists, LogRow, BoxMeaning, rows_after, MapBox, MapRecord, MapMeaning, map_applied, HasItsRecord, IsAccounted, Safe, files_of, Leaves, KeepsStored, StoresMessage}
 use Rattle.store_core.proofs.Common.{IsStore, StoreValue, OpenBox, slice_set, indexes_of, list_numbered, no_file, NamedButFor, option_map, listed_of, number_beside, due_at, leak_at, listed_at, equal_is, ne_eqb, eq-eqb, bit, false≢true}
 use Rattle.std.proofs.Common.{Result, Ok, Err, OnOk, IsErr}
 use Rattle.std.specs.List.{AllByRecursion}
@@ -11,7 +11,7 @@ use Rattle.mdbox_base.specs.declared.entries.MapEntry.TheVariants as entry
 use Rattle.model_lists.specs.Lists.{ListedMessage}
 use Rattle.model_meaning.proofs.AppliedLemmas.{boxes_by_generation, records_by_generation}
 use Rattle.model_meaning.specs.MapMeaning.{box_at, box_changed}
-use Rattle.model_store.specs.Stands.{AreListed, IsListed}
+use Rattle.model_store.specs.Stands.{AreListed}
 use Rattle.store_core.specs.Drafts.{AreNamedButFor, BoxDraftValue, GivesLists, IsHeldDraft, IsNewer, IsOutOfForce, ListsMessages, listed_with}
 use Rattle.store_core.proofs.BoxAppendLemmas.{store_sound}
 use Rattle.store_core.proofs.DueLemmas.{store_counts}

@@ -1,8 +1,8 @@
 -- A store with one entry more in the map log, by which a draft is the log of its mailbox.
-use Rattle.store_core.proofs.Common.{◌⊎◌, inl, inr, ◌≡◌, ◌≢◌, ◌<◌, ◌≤◌, ◌+◌, ◌-◌, ◌==◌, ℕ, Bool, true, false, if◌then◌else◌, List, [], ◌∷◌, ◌++◌, map, find, length, slice_set, slice_index_or, Option, Some, None, All, refl, sym, ◌∙◌, ap, subst, arith, map-append, All-nil, All-head, All-tail, All-weaker, All-contains, sum_by, count_by}
-use Rattle.store_core.proofs.Common.{Files, DiskState, History, IfTold, IsImage, SameButFor, reading, FileName, if_told-map, LogState, IsSameLog, IsLogHeld, IsLogRead, Reads, Holds, BoxEntry, MapEntry, BoxNo, HasOneMore, Lists, box_text, map_text, MapInRange, IsLogFile, LogHead, map_more, BoxMeaning, box_meaning, rows_after, MapFits}
-use Rattle.store_core.proofs.Common.{MapRecord, MapBox, MapMeaning, map_meaning, map_applied, map_same, root_same, AreGoodLogs, Opens, IsCounted, HasItsRecord, SafeBy, files_of, IsSettled, IsSettledFor, Leaves, HasBox, AddsText, LiesBelowEnd, AreBoxLogs, ReadBoxLogs, IsRunning, CoverDues, IsUpTo, IsStore, StoreValue, indexes_of}
-use Rattle.store_core.proofs.Common.{OpenBox, listed_of, number_beside, due_at, leak_at, listed_at, list_numbered, head_of, equal_is, meaning_numbered, Highest, HasEntryRoom, entry_room, false≢true, eq-eqb}
+use Rattle.store_core.proofs.Common.{inl, inr, ◌≡◌, ◌≢◌, ◌<◌, ◌≤◌, ◌+◌, ◌==◌, ℕ, Bool, true, false, if◌then◌else◌, List, [], ◌∷◌, ◌++◌, map, find, length, slice_set, slice_index_or, Option, Some, None, All, refl, sym, ◌∙◌, ap, subst, arith, map-append, All-nil, All-head, All-tail, All-weaker, All-contains, sum_by, count_by}
+use Rattle.store_core.proofs.Common.{Files, DiskState, History, IfTold, SameButFor, reading, FileName, if_told-map, LogState, IsSameLog, IsLogHeld, IsLogRead, Reads, Holds, BoxEntry, MapEntry, BoxNo, HasOneMore, Lists, box_text, map_text, MapInRange, IsLogFile, LogHead, map_more, BoxMeaning, box_meaning, rows_after, MapFits}
+use Rattle.store_core.proofs.Common.{MapRecord, MapBox, MapMeaning, map_meaning, map_applied, map_same, root_same, AreGoodLogs, Opens, IsCounted, HasItsRecord, files_of, IsSettled, IsSettledFor, Leaves, HasBox, AddsText, LiesBelowEnd, AreBoxLogs, IsRunning, CoverDues, IsUpTo, IsStore, StoreValue, indexes_of}
+use Rattle.store_core.proofs.Common.{OpenBox, listed_of, due_at, leak_at, head_of, equal_is, meaning_numbered, Highest, HasEntryRoom, entry_room, false≢true, eq-eqb}
 use Rattle.std.specs.Prelude.{IsTrue, is_some, slice_get}
 use Rattle.std.specs.Option.{option_map}
 use Rattle.std.proofs.lemmas.List.Elements.{All-set}
@@ -12,12 +12,10 @@ use Rattle.model_appends.specs.MapAppending.{IsMapAppend}
 use Rattle.model_logs.specs.declared.log_head.LogKind.TheVariants as kind
 use Rattle.model_logs.proofs.EntryLemmas.{box_one}
 use Rattle.model_logs.specs.Entries.{BoxInRange}
-use Rattle.model_lists.specs.Lists.{ListedMessage}
 use Rattle.model_meaning.proofs.AppliedLemmas.{records_by_generation, boxes_by_generation}
 use Rattle.model_meaning.proofs.MapSoundLemmas.{map_sound}
 use Rattle.model_meaning.specs.MapMeaning.{box_at}
 use Rattle.model_meaning.specs.SameMeaning.{MeansSame}
-use Rattle.model_meaning.specs.Sound.{IsSoundMap}
 use Rattle.model_octets.proofs.SearchLemmas.{found_none, found_one}
 use Rattle.model_store.proofs.SettledLemmas.{log_in}
 use Rattle.model_store.proofs.StandsLemmas.{log_same}
@@ -26,7 +24,7 @@ use Rattle.model_store.specs.Stands.{AreListed, HasLog}
 use Rattle.model_rewritten.specs.Switched.{list_switched, log_switched}
 use Rattle.model_rewritten.proofs.SwitchLemmas.{leaves_switched, same_append, switch_append}
 use Rattle.model_rewritten.proofs.SwitchOpenLemmas.{good_switched, means_switched, opens_switched}
-use Rattle.store_core.specs.Drafts.{BoxDraftValue, GivesLists, IsBoxDraft, IsHeldDraft, IsNewer, ListsMessages, listed_with, meanings_with}
+use Rattle.store_core.specs.Drafts.{BoxDraftValue, GivesLists, IsHeldDraft, IsNewer, listed_with, meanings_with}
 use Rattle.store_core.proofs.BoxAppendLemmas.{disk_more, is_log, root_stays, store_sound}
 use Rattle.store_core.proofs.BoxCrashLemmas.{ReadsImage}
 use Rattle.store_core.proofs.DueLemmas.{AreNumbers, at_own_place, dues_each, listed_meant}

@@ -1,6 +1,6 @@
 -- Mailboxes of which one has another log, in a new generation: their open logs, what these mean, and how often messages are listed.
-use Rattle.store_core.proofs.Common.{◌≡◌, ◌≢◌, ◌<◌, ◌≤◌, ◌==◌, ℕ, Bool, true, false, zero, suc, if◌then◌else◌, List, [], ◌∷◌, map, length, slice_set, slice_index_or, find, Option, Some, None, All, AllPairs, refl, sym, ◌∙◌, ap, subst, arith, All-head, All-tail, All-weaker, Files, History, FileName}
-use Rattle.store_core.proofs.Common.{BoxEntry, MapEntry, BoxNo, Lists, box_text, BoxMeaning, box_meaning, rows_after, MapBox, MapRecord, MapMeaning, HasItsRecord, IsCounted, Opens, listed_of, Reads, map_meaning, All-cons, All-contains, bytes_eq, head_of, HasBox, equal_is, pairs_head, pairs_tail, cond-true, cond-false, map_applied, IsUnnamed, AreBoxLogs, ReadBoxLogs, CoverDues, OpenBox, indexes_of}
+use Rattle.store_core.proofs.Common.{◌≡◌, ◌≢◌, ◌<◌, ◌≤◌, ◌==◌, ℕ, Bool, true, false, zero, suc, if◌then◌else◌, List, [], ◌∷◌, map, length, slice_set, slice_index_or, find, Option, Some, None, All, AllPairs, refl, sym, ◌∙◌, ap, subst, arith, All-head, All-tail, Files, History}
+use Rattle.store_core.proofs.Common.{BoxEntry, MapEntry, BoxNo, Lists, box_text, BoxMeaning, box_meaning, rows_after, MapBox, MapRecord, MapMeaning, HasItsRecord, IsCounted, listed_of, Reads, map_meaning, All-cons, All-contains, bytes_eq, head_of, HasBox, equal_is, pairs_head, pairs_tail, cond-true, cond-false, map_applied, IsUnnamed, AreBoxLogs, ReadBoxLogs, CoverDues, OpenBox, indexes_of}
 use Rattle.std.specs.Option.{option_map_or}
 use Rattle.std.proofs.lemmas.Bool.{eq-eqb, ne_eqb}
 use Rattle.disk_model.specs.declared.name.FileName.TheVariants as file
@@ -15,7 +15,7 @@ use Rattle.model_octets.proofs.PairLemmas.{IsOnly}
 use Rattle.model_octets.proofs.SearchLemmas.{found_one, text_is}
 use Rattle.model_store.proofs.OpeningSafeLemmas.{counted, passed_by, unlisted}
 use Rattle.model_store.specs.Opening.{PassBoxes, PassesBox}
-use Rattle.model_store.specs.Stands.{AreListed, AreMailboxes, IsMailbox}
+use Rattle.model_store.specs.Stands.{AreListed, AreMailboxes}
 use Rattle.model_rewritten.specs.Switched.{list_switched, log_switched}
 use Rattle.model_rewritten.proofs.SwitchLemmas.{mailboxes_switched, only_box, switched_is}
 use Rattle.model_rewritten.proofs.SwitchOpenLemmas.{untouched}

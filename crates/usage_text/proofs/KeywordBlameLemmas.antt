@@ -132,6 +132,8 @@ too_few words others e lt = subst (λ (ws : List (List ℕ)). HasFewer ws 2) (sy
   some = omega arith;
   known = (are_rules.0, are_rules.1);
   each = λ other say. let said = say_keywords other say in let long : length other ≡ length (verb ∷ said.name ∷ decimal_text said.uid.0 ∷ said.given) = ap (λ (ws : List (List ℕ)). length ws) said.words_are in omega (arith, long);
+  least = (verb ∷ sample_text ∷ decimal_text 1 ∷ replicate 0 sample_text, say_again 0 sample_text sample_keyword, refl);
+  more = (verb ∷ sample_text ∷ decimal_text 1 ∷ replicate 1 sample_text, say_again 1 sample_text sample_keyword, omega arith);
   fewer = omega (arith, lt);
 })
 

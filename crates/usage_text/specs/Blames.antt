@@ -64,11 +64,13 @@ pub record HasOtherCount (words : List (List ℕ)) (count : ℕ) : Type 0 where
   pub each : (command : Command) → HasVerb (word_at words 0) command → length (words_of command) ≡ 1 + count
   pub other : length words ≢ 1 + count
 
--- Words that say a command of the verb have so many words after it at least, and there is one; these are fewer.
+-- Words that say a command of the verb have so many words after it at least: some just so many, and some more. These are fewer.
 pub record HasFewer (words : List (List ℕ)) (count : ℕ) : Type 0 where
   pub some : 1 ≤ length words
   pub known : (command : Command) × HasVerb (word_at words 0) command
   pub each : (other : List (List ℕ)) → SayVerb (word_at words 0) other → 1 + count ≤ length other
+  pub least : (other : List (List ℕ)) × SayVerb (word_at words 0) other × (length other ≡ 1 + count)
+  pub more : (other : List (List ℕ)) × SayVerb (word_at words 0) other × (1 + count < length other)
   pub fewer : length words < 1 + count
 
 -- Each word stands at its place in a command of the verb; but more than 32 of those behind the first three are different.

@@ -1,4 +1,4 @@
-use Rattle.std.proofs.Common.{◌≡◌, ◌∙◌, ◌-◌, arith}
+use Rattle.std.proofs.Common.{arith}
 use Rattle.attach_join.proofs.OutsideLemmas.{outside_kept}
 use Rattle.attach_join.proofs.spreading.outside_stays.Goals as goal
 

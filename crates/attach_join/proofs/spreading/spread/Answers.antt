@@ -1,4 +1,4 @@
-use Rattle.std.proofs.Common.{refl, ◌≡◌, ◌+◌, ◌-◌, ℕ, length}
+use Rattle.std.proofs.Common.{refl, ◌+◌, ◌-◌, length}
 use Rattle.std.proofs.lemmas.List.{nil_from_length}
 use Rattle.attach_join.proofs.SpreadLemmas.{range_of, spread_all, spreading_next, spreading_start}
 use Rattle.attach_join.proofs.spreading.spread.Goals as goal

@@ -1,77 +1,71 @@
-use Rattle.mail_fetch.proofs.Common.{◌≡◌, ◌≤◌, ◌+◌, [], length, sym, ◌∙◌, ap, subst, arith, refl, take, drop, octets_to_read, HoldsWhole, IsStoredMessage, All, ExtRef, ◌++◌}
+use Rattle.mail_fetch.proofs.Common.{◌≡◌, ◌-◌, ◌++◌, ◌∙◌, List, ℕ, length, sym, ap, subst, arith, common_steps, All, ExtRef, HoldsWhole}
 use Rattle.std.specs.Prelude.{IfSome}
-use Rattle.std.proofs.lemmas.List.{nil_from_length}
 use Rattle.attach_join.specs.Behind.{octets_in}
+use Rattle.attach_join.specs.Kept.{FitInto, kept_in}
+use Rattle.attach_join.specs.Spread.{outside}
 use Rattle.model_attach.specs.Rejoined.{IsWhole}
 use Rattle.model_base64.specs.Base64Text.{IsForm}
-use Rattle.mail_fetch.proofs.BodyLemmas.{if_none}
-use Rattle.mail_fetch.proofs.MessageLemmas.{cut_at, head_whole, too_short, none_stored, found_in, forms_of_stored, holds_joined_as, none_joined_as, holds_alone, listed_alone, some_map, none_map}
+use Rattle.mail_fetch.specs.Held.{HasJoinRoom, HasOctetRoom, IsHeld, IsSpread, instance_octets, octets_held}
+use Rattle.mail_fetch.proofs.HeldLemmas.{forms_of_spread, held_less, lost_now, spread_is_whole, spread_too_few}
+use Rattle.mail_fetch.proofs.MessageLemmas.{none_map, some_map}
 use Rattle.mail_fetch.proofs.message.message_of.Goals as goal
 
-pub returns-in_err-behind-clause-none : goal.returns-in_err-behind-clause-none
-returns-in_err-behind-clause-none c =
-    let small = c.in_err-behind.ensures in
-    if_none c.from_residual.result _ (λ octets. too_short c.args.from.now _ octets (omega (arith, small)))
+pub message_alone-requires-clause-cut : goal.message_alone-requires-clause-cut
+message_alone-requires-clause-cut c =
+    let now = c.settled.ensures.held 0 (held_less c.args.from.now c.args.head.now 0 c.requires.held.0 c.args.held (omega arith) c.requires.held.1) (λ unknown some. (c.requires.region unknown some, omega arith)) in
+    let there : HasOctetRoom c.args.from.now c.args.head.now c.in-AsRead.octets × HasJoinRoom c.args.from.now c.in-AsRead.octets c.in-AsRead.refs c.in-AsRead.tail = subst (IsHeld c.args.from.now c.args.head.now 0) c.in-AsRead.is now in
+    there.0.cut
 
-pub returns-in_err-size-clause-none : goal.returns-in_err-size-clause-none
-returns-in_err-size-clause-none c =
-    let at = c.in_ok-behind.behind in
-    let long : length c.args.head.now + length c.args.read.items ≡ octets_to_read c.args.from.now = omega (arith, c.if-head-len.false, c.len.ensures, c.args.read.ok.0, c.requires.total) in
-    let whole = head_whole c.args.from.now c.args.head.now c.args.read.items c.requires.cut c.in_ok-behind.ensures.0 long in
-    let cut = cut_at c.args.from.now c.args.head.now c.args.read.items at whole (omega (arith, c.in_ok-behind.ensures.0, c.in_ok-behind.ensures.1)) long in
-    if_none c.from_residual-in_err-size.result _ (λ octets. none_stored c.args.from.now c.args.head.now c.args.read.items (take at c.args.read.items) (drop at c.args.read.items) octets cut (subst (λ xs. IsStoredMessage c.args.from.now (c.args.head.now ++ xs) → ⊥) (ap (take at) c.deref.ensures.value) c.in_err-size.ensures.none))
+pub message_alone-requires-clause-empty : goal.message_alone-requires-clause-empty
+message_alone-requires-clause-empty c =
+    let now = c.settled.ensures.held 0 (held_less c.args.from.now c.args.head.now 0 c.requires.held.0 c.args.held (omega arith) c.requires.held.1) (λ unknown some. (c.requires.region unknown some, omega arith)) in
+    let there : HasOctetRoom c.args.from.now c.args.head.now c.in-AsRead.octets × HasJoinRoom c.args.from.now c.in-AsRead.octets c.in-AsRead.refs c.in-AsRead.tail = subst (IsHeld c.args.from.now c.args.head.now 0) c.in-AsRead.is now in
+    there.1.no_refs
 
-pub rejoined-requires-clause-forms : goal.rejoined-requires-clause-forms
-rejoined-requires-clause-forms c =
-    let at = c.in_ok-behind.behind in
-    let long : length c.args.head.now + length c.args.read.items ≡ octets_to_read c.args.from.now = omega (arith, c.if-head-len.false, c.len.ensures, c.args.read.ok.0, c.requires.total) in
-    let whole = head_whole c.args.from.now c.args.head.now c.args.read.items c.requires.cut c.in_ok-behind.ensures.0 long in
-    let cut = cut_at c.args.from.now c.args.head.now c.args.read.items at whole (omega (arith, c.in_ok-behind.ensures.0, c.in_ok-behind.ensures.1)) long in
-    let found = found_in c.args.from.now c.args.head.now _ (take at c.args.read.items) c.in_ok-size.size c.in_ok-size.refs.items (ap (take at) c.deref.ensures.value) c.in_ok-size.ensures.some in
-    subst (All (λ (ref : ExtRef). IfSome ref.form IsForm)) (sym c.deref-else-length-eq0-2.ensures.value) (forms_of_stored c.args.from.now c.args.head.now (take at c.args.read.items) c.in_ok-size.size c.in_ok-size.refs.items found)
+pub returns-in-AsRead-clause-none : goal.returns-in-AsRead-clause-none
+returns-in-AsRead-clause-none c =
+    let same : octets_held c.args.from.now.instances c.args.held ≡ c.in-AsRead.octets.items = sym c.settled.ensures.octets ∙ ap (octets_held c.args.from.now.instances) c.in-AsRead.is in
+    none_map c.message_alone.result _ _ (λ none octets h. none octets (subst (λ (xs : List ℕ). HoldsWhole c.args.from.now (c.args.head.now ++ xs) octets) same h)) c.message_alone.ensures.none
 
-pub returns-then-length-eq0-clause-some : goal.returns-then-length-eq0-clause-some
-returns-then-length-eq0-clause-some c =
-    let at = c.in_ok-behind.behind in
-    let long : length c.args.head.now + length c.args.read.items ≡ octets_to_read c.args.from.now = omega (arith, c.if-head-len.false, c.len.ensures, c.args.read.ok.0, c.requires.total) in
-    let whole = head_whole c.args.from.now c.args.head.now c.args.read.items c.requires.cut c.in_ok-behind.ensures.0 long in
-    let cut = cut_at c.args.from.now c.args.head.now c.args.read.items at whole (omega (arith, c.in_ok-behind.ensures.0, c.in_ok-behind.ensures.1)) long in
-    let found = found_in c.args.from.now c.args.head.now _ (take at c.args.read.items) c.in_ok-size.size c.in_ok-size.refs.items (ap (take at) c.deref.ensures.value) c.in_ok-size.ensures.some in
-    let alone : c.args.from.now.instances ≡ [] = nil_from_length c.args.from.now.instances (sym c.length.ensures ∙ c.if-length-eq0.true) in
-    some_map c.body_alone.result _ (λ octets. HoldsWhole c.args.from.now (c.args.head.now ++ c.args.read.items) octets.items) (λ octets h. holds_alone c.args.from.now c.args.head.now c.args.read.items (take at c.args.read.items) (drop at c.args.read.items) octets.items c.in_ok-size.size at c.in_ok-size.refs.items cut refl found alone h.0 h.1) c.body_alone.ensures.some
+pub joined-requires-clause-fit : goal.joined-requires-clause-fit
+joined-requires-clause-fit c =
+    let now = c.settled.ensures.held 0 (held_less c.args.from.now c.args.head.now 0 c.requires.held.0 c.args.held (omega arith) c.requires.held.1) (λ unknown some. (c.requires.region unknown some, omega arith)) in
+    let s : IsSpread c.args.from.now c.args.head.now c.in-Spread.whole.items c.in-Spread.tail.items c.in-Spread.refs.items c.in-Spread.kept = subst (IsHeld c.args.from.now c.args.head.now 0) c.in-Spread.is now in
+    (s.fit.0, subst (λ (rs : List ExtRef). FitInto (length c.in-Spread.whole.items) s.fit.0 rs c.args.from.now.instances) (sym c.deref.ensures.value) s.fit.1)
 
-pub returns-then-length-eq0-clause-none : goal.returns-then-length-eq0-clause-none
-returns-then-length-eq0-clause-none c =
-    let at = c.in_ok-behind.behind in
-    let long : length c.args.head.now + length c.args.read.items ≡ octets_to_read c.args.from.now = omega (arith, c.if-head-len.false, c.len.ensures, c.args.read.ok.0, c.requires.total) in
-    let whole = head_whole c.args.from.now c.args.head.now c.args.read.items c.requires.cut c.in_ok-behind.ensures.0 long in
-    let cut = cut_at c.args.from.now c.args.head.now c.args.read.items at whole (omega (arith, c.in_ok-behind.ensures.0, c.in_ok-behind.ensures.1)) long in
-    let found = found_in c.args.from.now c.args.head.now _ (take at c.args.read.items) c.in_ok-size.size c.in_ok-size.refs.items (ap (take at) c.deref.ensures.value) c.in_ok-size.ensures.some in
-    let alone : c.args.from.now.instances ≡ [] = nil_from_length c.args.from.now.instances (sym c.length.ensures ∙ c.if-length-eq0.true) in
-    none_map c.body_alone.result _ _ (λ none octets h. none (listed_alone c.args.from.now c.args.head.now c.args.read.items (take at c.args.read.items) (drop at c.args.read.items) octets c.in_ok-size.size c.in_ok-size.refs.items cut found alone h)) c.body_alone.ensures.none
+pub joined-requires-clause-forms : goal.joined-requires-clause-forms
+joined-requires-clause-forms c =
+    let now = c.settled.ensures.held 0 (held_less c.args.from.now c.args.head.now 0 c.requires.held.0 c.args.held (omega arith) c.requires.held.1) (λ unknown some. (c.requires.region unknown some, omega arith)) in
+    let s : IsSpread c.args.from.now c.args.head.now c.in-Spread.whole.items c.in-Spread.tail.items c.in-Spread.refs.items c.in-Spread.kept = subst (IsHeld c.args.from.now c.args.head.now 0) c.in-Spread.is now in
+    subst (All (λ (ref : ExtRef). IfSome ref.form IsForm)) (sym c.deref.ensures.value) (forms_of_spread c.args.from.now c.args.head.now c.in-Spread.whole.items c.in-Spread.tail.items c.in-Spread.refs.items c.in-Spread.kept s)
 
-pub returns-else-length-eq0-clause-some : goal.returns-else-length-eq0-clause-some
-returns-else-length-eq0-clause-some c =
-    let at = c.in_ok-behind.behind in
-    let long : length c.args.head.now + length c.args.read.items ≡ octets_to_read c.args.from.now = omega (arith, c.if-head-len.false, c.len.ensures, c.args.read.ok.0, c.requires.total) in
-    let whole = head_whole c.args.from.now c.args.head.now c.args.read.items c.requires.cut c.in_ok-behind.ensures.0 long in
-    let cut = cut_at c.args.from.now c.args.head.now c.args.read.items at whole (omega (arith, c.in_ok-behind.ensures.0, c.in_ok-behind.ensures.1)) long in
-    let found = found_in c.args.from.now c.args.head.now _ (take at c.args.read.items) c.in_ok-size.size c.in_ok-size.refs.items (ap (take at) c.deref.ensures.value) c.in_ok-size.ensures.some in
-    let text = c.deref-else-length-eq0.ensures.value in
-    let body = ap (take c.in_ok-size.size) (c.split_at.ensures.front ∙ ap (take at) text) in
-    let rest = c.split_at.ensures.back ∙ ap (drop at) text in
-    some_map c.rejoined.result _ (λ octets. HoldsWhole c.args.from.now (c.args.head.now ++ c.args.read.items) octets.items)
-    (λ octets h. holds_joined_as c.args.from.now c.args.head.now c.args.read.items (take at c.args.read.items) (drop at c.args.read.items) octets.items _ _ c.in_ok-size.size c.in_ok-size.refs.items _ cut found body rest c.deref-else-length-eq0-2.ensures.value h) c.rejoined.ensures.some
+pub returns-in-Spread-clause-some : goal.returns-in-Spread-clause-some
+returns-in-Spread-clause-some c =
+    let now = c.settled.ensures.held 0 (held_less c.args.from.now c.args.head.now 0 c.requires.held.0 c.args.held (omega arith) c.requires.held.1) (λ unknown some. (c.requires.region unknown some, omega arith)) in
+    let s : IsSpread c.args.from.now c.args.head.now c.in-Spread.whole.items c.in-Spread.tail.items c.in-Spread.refs.items c.in-Spread.kept = subst (IsHeld c.args.from.now c.args.head.now 0) c.in-Spread.is now in
+    let same = sym c.settled.ensures.octets ∙ ap (octets_held c.args.from.now.instances) c.in-Spread.is in
+    let total = c.requires.total in
+    some_map c.joined.result _ (λ octets. HoldsWhole c.args.from.now (c.args.head.now ++ octets_held c.args.from.now.instances c.args.held) octets.items)
+    (λ octets h.
+    let all : c.in-Spread.kept ≡ instance_octets c.args.from.now = (let t = h.0 in let e : c.in-Spread.kept ≡ c.args.total - c.args.from.now.size = grind (arith, common_steps, t) in omega (arith, e, total)) in
+    subst (λ (xs : List ℕ). HoldsWhole c.args.from.now (c.args.head.now ++ xs) octets.items) (sym same)
+    (spread_is_whole c.args.from.now c.args.head.now c.in-Spread.whole.items c.in-Spread.tail.items octets.items c.in-Spread.refs.items c.in-Spread.kept s all h.1
+    (subst (λ (rs : List ExtRef). IsWhole octets.items (outside rs c.in-Spread.whole.items) rs (octets_in c.args.from.now.instances (kept_in rs c.args.from.now.instances c.in-Spread.whole.items))) c.deref.ensures.value h.2))) c.joined.ensures.some
 
-pub returns-else-length-eq0-clause-none : goal.returns-else-length-eq0-clause-none
-returns-else-length-eq0-clause-none c =
-    let at = c.in_ok-behind.behind in
-    let long : length c.args.head.now + length c.args.read.items ≡ octets_to_read c.args.from.now = omega (arith, c.if-head-len.false, c.len.ensures, c.args.read.ok.0, c.requires.total) in
-    let whole = head_whole c.args.from.now c.args.head.now c.args.read.items c.requires.cut c.in_ok-behind.ensures.0 long in
-    let cut = cut_at c.args.from.now c.args.head.now c.args.read.items at whole (omega (arith, c.in_ok-behind.ensures.0, c.in_ok-behind.ensures.1)) long in
-    let found = found_in c.args.from.now c.args.head.now _ (take at c.args.read.items) c.in_ok-size.size c.in_ok-size.refs.items (ap (take at) c.deref.ensures.value) c.in_ok-size.ensures.some in
-    let text = c.deref-else-length-eq0.ensures.value in
-    let body = ap (take c.in_ok-size.size) (c.split_at.ensures.front ∙ ap (take at) text) in
-    let rest = c.split_at.ensures.back ∙ ap (drop at) text in
-    none_map c.rejoined.result _ _
-    (λ none octets h. none_joined_as c.args.from.now c.args.head.now c.args.read.items (take at c.args.read.items) (drop at c.args.read.items) octets _ _ c.in_ok-size.size c.in_ok-size.refs.items _ cut found body rest c.deref-else-length-eq0-2.ensures.value none h) c.rejoined.ensures.none
+pub returns-in-Spread-clause-none : goal.returns-in-Spread-clause-none
+returns-in-Spread-clause-none c =
+    let now = c.settled.ensures.held 0 (held_less c.args.from.now c.args.head.now 0 c.requires.held.0 c.args.held (omega arith) c.requires.held.1) (λ unknown some. (c.requires.region unknown some, omega arith)) in
+    let s : IsSpread c.args.from.now c.args.head.now c.in-Spread.whole.items c.in-Spread.tail.items c.in-Spread.refs.items c.in-Spread.kept = subst (IsHeld c.args.from.now c.args.head.now 0) c.in-Spread.is now in
+    let same = sym c.settled.ensures.octets ∙ ap (octets_held c.args.from.now.instances) c.in-Spread.is in
+    let total = c.requires.total in
+    none_map c.joined.result _ _
+    (λ t octets h. spread_too_few c.args.from.now c.args.head.now c.in-Spread.whole.items c.in-Spread.tail.items octets c.in-Spread.refs.items c.in-Spread.kept s
+    (λ all. let e : c.in-Spread.kept ≡ c.args.total - c.args.from.now.size = omega (arith, all, total) in grind (arith, common_steps, t, e))
+    (subst (λ (xs : List ℕ). HoldsWhole c.args.from.now (c.args.head.now ++ xs) octets) same h)) c.joined.ensures.none
+
+pub returns-clause-none : goal.returns-clause-none
+returns-clause-none c octets h =
+    let now = c.settled.ensures.held 0 (held_less c.args.from.now c.args.head.now 0 c.requires.held.0 c.args.held (omega arith) c.requires.held.1) (λ unknown some. (c.requires.region unknown some, omega arith)) in
+    let d = subst (IsHeld c.args.from.now c.args.head.now 0) c.in-Damaged.is now in
+    let same : octets_held c.args.from.now.instances c.args.held ≡ c.in-Damaged.octets.items = sym c.settled.ensures.octets ∙ ap (octets_held c.args.from.now.instances) c.in-Damaged.is in
+    lost_now c.args.from.now (c.args.head.now ++ c.in-Damaged.octets.items) octets 0 d.1 (subst (λ (xs : List ℕ). HoldsWhole c.args.from.now (c.args.head.now ++ xs) octets) same h)

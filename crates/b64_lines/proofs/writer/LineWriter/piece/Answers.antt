@@ -1,6 +1,6 @@
 use Rattle.std.proofs.Common.{rules, ◌≡◌, ◌≤◌, ◌<◌, ◌+◌, ◌-◌, ◌∙◌, ◌*◌, ◌/◌, ◌++◌, ℕ, List, refl, sym, ap, length, take, arith, append_assoc}
 use Rattle.b64_lines.proofs.CutLemmas.{is_some}
-use Rattle.b64_lines.proofs.WriterLemmas.{as_seen, full_kept, kept_more, kept_room, piece_written, seen_room}
+use Rattle.b64_lines.proofs.WriterLemmas.{as_seen, behind_later, full_kept, kept_more, kept_room, piece_written, seen_room}
 use Rattle.b64_lines.proofs.writer.LineWriter.piece.Goals as goal
 
 pub put_line-at-requires : goal.put_line-at-requires
@@ -67,3 +67,7 @@ returns-clause-written c = λ given was.
     (kept_more c.self.inside.form c.self.inside.at kept given front c.args.into.now filled h c.put_behind-self-inside.ensures.put) long some
     c.put_line-at.ensures.put c.put_lines-at.ensures.written c.put_lines-at.ensures.within c.put_behind-self-inside-2.ensures.put
     (ap (λ (xs : List ℕ). given ++ xs) c.split_at.ensures.by_index.0 ∙ sym (append_assoc given front rest))
+
+pub returns-clause-behind : goal.returns-clause-behind
+returns-clause-behind c =
+    c.put_lines-at.ensures.behind ∙ behind_later c.put_line-at.result c.put_lines-at.result.0 c.args.into.now c.put_line-at.new.into c.put_lines-at.ensures.order c.put_line-at.ensures.behind

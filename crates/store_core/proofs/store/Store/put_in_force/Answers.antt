@@ -1,4 +1,4 @@
-use Rattle.store_core.proofs.Common.{◌≡◌, ◌==◌, ℕ, List, Some, find, slice_set, option_map, refl, sym, ◌∙◌, ap, subst, OpenBox, MapMeaning, IsUnnamed, KeepsStored, MailIsKept, indexes_of}
+use Rattle.store_core.proofs.Common.{◌≡◌, ◌==◌, Some, find, slice_set, option_map, refl, sym, ◌∙◌, ap, subst, OpenBox, MapMeaning, IsUnnamed, KeepsStored, MailIsKept, indexes_of}
 use Rattle.mdbox_base.specs.declared.entries.MapEntry.TheVariants as entry
 use Rattle.model_meaning.specs.SameMeaning.{MeansSame}
 use Rattle.store_core.specs.Drafts.{meanings_with}

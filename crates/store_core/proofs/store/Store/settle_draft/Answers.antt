@@ -1,4 +1,4 @@
-use Rattle.store_core.proofs.Common.{refl, sym, ◌∙◌, ap, subst, EachImage, OthersStay, SameButFor, Lists, IsSettledFor, Leaves, KeepsStored, MailIsKept}
+use Rattle.store_core.proofs.Common.{refl, ◌∙◌, ap, subst, EachImage, OthersStay, SameButFor, Lists, IsSettledFor, Leaves, KeepsStored, MailIsKept}
 use Rattle.disk_model.specs.declared.name.FileName.TheVariants as file
 use Rattle.store_core.proofs.DraftCallLemmas.{draft_seen, draft_settled, free_newer, held_seen, made_draft_same}
 use Rattle.store_core.proofs.KnownInstanceLemmas.{box_is_none, instances_beside, instances_on}

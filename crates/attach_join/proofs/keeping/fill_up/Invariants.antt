@@ -1,6 +1,6 @@
 use Rattle.std.proofs.Common.{◌-◌, length}
-use Rattle.attach_join.proofs.LinesLemmas.{IsFilling}
-use Rattle.attach_join.proofs.lines.fill_up.Given as goal
+use Rattle.attach_join.proofs.FillLemmas.{IsFilling}
+use Rattle.attach_join.proofs.keeping.fill_up.Given as goal
 
 abbrev pub invariant-loop-out : goal.invariant-loop-out
 invariant-loop-out l = record { filling : IsFilling l.fn.out l.out l.end }
