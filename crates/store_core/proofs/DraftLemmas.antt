@@ -14,7 +14,7 @@ use Rattle.model_store.specs.Opening.{AreBoxEntries}
 use Rattle.store_core.specs.Drafts.{AllFitBehind, AreLaidOut}
 use Rattle.store_core.specs.MapDrafts.{AllMapFitBehind, HasRoomForAll, rooms_of}
 use Rattle.store_core.proofs.MapAppendLemmas.{some_octets}
-use Rattle.map_index.specs.Value.{HasRoomFor, IsNoLessRoom, larger_room, room_for, room_left}
+use Rattle.map_index.specs.Value.{IsNoLessRoom, MapIndexValue, larger_room, room_for, room_left}
 use Rattle.map_index.specs.declared.room.MapRoom.{MapRoom}
 use Rattle.model_meaning.proofs.FitLemmas.{each_more, map_fit_more}
 use Rattle.model_store.specs.Opening.{AreMapEntries}
@@ -132,7 +132,7 @@ map_extended store before (e ∷ es) good in_range fit =
     }
 
 -- room for all entries together is room for one behind another
-pub room_for_all : (entries : List MapEntry) (room : MapRoom) → IsNoLessRoom (rooms_of entries) room → HasRoomForAll entries room
+room_for_all : (entries : List MapEntry) (room : MapRoom) → IsNoLessRoom (rooms_of entries) room → HasRoomForAll entries room
 room_for_all [] room least = tt
 room_for_all (e ∷ es) room least =
     let a = sum_by-cons (λ (x : MapEntry). (room_for x).records) e es in
@@ -147,5 +147,9 @@ room_for_all (e ∷ es) room least =
       room_for_all es (room_left e room) (record { records = omega (arith, a, p); instances = omega (arith, b, q); boxes = omega (arith, c, r); files = omega (arith, d, s) }),
     )
 
-pub larger_has : (a b : MapRoom) → IsNoLessRoom b (larger_room a b)
+larger_has : (a b : MapRoom) → IsNoLessRoom b (larger_room a b)
 larger_has a b = record { records = omega arith; instances = omega arith; boxes = omega arith; files = omega arith }
+
+pub room_after_reserve : (entries : List MapEntry) (wanted : MapRoom) (old new : MapIndexValue) → wanted ≡ rooms_of entries → new ≡ record { meaning = old.meaning; room = larger_room old.room wanted } → HasRoomForAll entries new.room
+room_after_reserve entries wanted old new is made =
+    room_for_all entries new.room (subst (λ (r : MapRoom). IsNoLessRoom (rooms_of entries) r) (sym (ap (λ (i : MapIndexValue). i.room) made)) (subst (λ (w : MapRoom). IsNoLessRoom w (larger_room old.room wanted)) is (larger_has old.room wanted)))

@@ -57,3 +57,4 @@ pub mod ReplacedLogLemmas
 pub mod PutInForceLemmas
 pub mod DraftSwitchLemmas
 pub mod MapDraftLemmas
+pub mod MapSwitchLemmas

@@ -9,7 +9,7 @@ use Rattle.mdbox_base.specs.Words.{IsNumber}
 use Rattle.model_logs.specs.declared.log_head.LogKind.TheVariants as kind
 use Rattle.model_rewritten.specs.Unneeded.{IsUnneeded}
 use Rattle.model_rewritten.proofs.OutOfForceLemmas.{unneeded_map}
-use Rattle.store_core.specs.MapDrafts.{AllMapFitBehind, IsMapDraft, MapDraftValue}
+use Rattle.store_core.specs.MapDrafts.{AllMapFitBehind, IsHeldMapDraft, IsMapDraft, MapDraftValue}
 use Rattle.store_core.proofs.DraftLemmas.{map_extended, roomier_draft}
 
 -- the store needs no log of another generation
@@ -61,3 +61,24 @@ map_draft_seen H v now draft seen is same d = subst (λ (x : StoreValue _). IsMa
 pub map_draft_ok : {D T E : Type 0} → (H : D → Option History) (s w : StoreValue D) (draft : MapDraftValue) (r : Result T E) (x : T) → r ≡ Ok x → s ≡ w → IsMapDraft (H w.disk) draft w → OnOk r (IsMapDraft (H s.disk) draft s)
 map_draft_ok H s w draft r x is same d =
     subst (λ (y : Result _ _). OnOk y (IsMapDraft (H s.disk) draft s)) (sym is) (subst (λ (y : StoreValue _). IsMapDraft (H y.disk) draft y) (sym same) d)
+
+-- a draft that was synced
+pub map_draft_settled : {D : Type 0} → (old new : Option History) (v w : StoreValue D) (draft : MapDraftValue) → (d : IsMapDraft old draft v) → w.map ≡ v.map → w.map_log ≡ v.map_log → ((texts : List (List ℕ)) → Drafts draft.log texts old → Holds draft.log texts new) → IsHeldMapDraft new draft w
+map_draft_settled old new v w draft d map_same log_same hold =
+    let held : Holds draft.log (map map_text d.entries) new = hold (map map_text d.entries) d.reads in
+    subst (λ (m : MapMeaning). IsHeldMapDraft new draft (record w { map = m })) (sym map_same) (record {
+      drafted = record {
+        entries = d.entries;
+        good = d.good;
+        means = d.means;
+        name = d.name;
+        head = d.head;
+        reads = held_draft draft.log (map map_text d.entries) new held;
+        is_generation = d.is_generation;
+        other = subst (λ (l : LogState). l.name ≢ file.Map draft.generation) (sym log_same) d.other;
+      };
+      held = held;
+    })
+
+pub map_held_seen : {D : Type 0} → (h : Option History) (w : StoreValue D) (draft seen : MapDraftValue) → draft ≡ seen → IsHeldMapDraft h draft w → IsHeldMapDraft h seen w
+map_held_seen h w draft seen is d = subst (λ (x : MapDraftValue). IsHeldMapDraft h x w) is d

@@ -107,7 +107,7 @@ reads_beside : (name : FileName) (log : LogState) (entries : List (List ℕ)) (o
 reads_beside name log entries old new change apart r =
     between-on (IsBeside name) (IsLogRead log entries) (IsLogRead log entries) old new (λ a b c i. record { file = c.reads log.name apart ∙ i.file; end = i.end; count = i.count; head_fits = i.head_fits; entries_fit = i.entries_fit }) change r
 
-boxes_beside : (name : FileName) (store : List ℕ) (mailboxes : List MapBox) (boxes : List OpenBox) (logs : List (List BoxEntry)) (old new : Option History) → Between (IsBeside name) old new → All (λ box. file.Box box.number box.generation ≢ name) mailboxes → AreBoxLogs store mailboxes boxes
+pub boxes_beside : (name : FileName) (store : List ℕ) (mailboxes : List MapBox) (boxes : List OpenBox) (logs : List (List BoxEntry)) (old new : Option History) → Between (IsBeside name) old new → All (λ box. file.Box box.number box.generation ≢ name) mailboxes → AreBoxLogs store mailboxes boxes
     → ReadBoxLogs old boxes logs → ReadBoxLogs new boxes logs
 boxes_beside name store [] [] [] old new change free a r = tt
 boxes_beside name store [] [] (l ∷ ls) old new change free a r = absurd r

@@ -2,7 +2,7 @@
 use Rattle.std.specs.Prelude.{◌≡◌, ◌≢◌, ℕ, List, [], ◌∷◌, map, sum_by, Option}
 use Rattle.disk_model.specs.Disk.{History}
 use Rattle.disk_model.specs.declared.name.FileName.TheVariants as file
-use Rattle.gate_log.specs.Log.{Drafts}
+use Rattle.gate_log.specs.Log.{Drafts, Holds}
 use Rattle.gate_log.specs.State.{LogState}
 use Rattle.map_index.specs.Value.{HasRoomFor, MapIndexValue, room_for, room_left}
 use Rattle.map_index.specs.declared.room.MapRoom.{MapRoom}
@@ -39,6 +39,11 @@ AllMapFitBehind m [] = Unit {0}
 AllMapFitBehind m (entry ∷ rest) = MapFits m entry × AllMapFitBehind (map_applied entry m) rest
 
 -- ---- within the crate
+
+-- A draft that a crash leaves as it reads.
+pub record IsHeldMapDraft {D : Type 0} (history : Option History) (draft : MapDraftValue) (store : StoreValue D) : Type 0 where
+  pub drafted : IsMapDraft history draft store
+  pub held : Holds draft.log (map map_text drafted.entries) history
 
 -- what entries need of an index, all together
 abbrev pub rooms_of : List MapEntry → MapRoom
