@@ -303,8 +303,16 @@ fn append_root<D: Disk>(
     ensures unfailed { OnOk result (NoFault (D.faults disk.old) (D.faults disk.new)) }
     ensures log { IsSameLog log.old log.new }
 {
+    let text = naming_text(generation);
+    log.append(disk, &text)
+}
+
+/// The octets of the entry of the root log that names a map log of this generation.
+fn naming_text(generation: u32) -> [u8; 5]
+    ensures { result ≡ root_text (root_entry.M generation) }
+{
     let [a, b, c, d] = generation.to_be_bytes();
-    log.append(disk, &[b'M', a, b, c, d])
+    [b'M', a, b, c, d]
 }
 
 /// Removes the map log of this generation, and syncs all names.

@@ -10,28 +10,22 @@ use Rattle.store_core.proofs.UnneededLogLemmas.{besides, leaves_free, named_but,
 use Rattle.store_core.proofs.store.Store.draft_map.Goals as goal
 
 pub returns-in_err-room-clause-any_moment : goal.returns-in_err-room-clause-any_moment
-returns-in_err-room-clause-any_moment g c =
-    subst (λ v. (lists : Lists) → IsSettledFor lists (g.D.Disk.history v.disk) → Leaves lists lists (g.D.Disk.history v.disk) (g.D.Disk.history c.self.inside.disk)) c.self.view_is (λ lists settled. leaves_none _ lists lists settled)
+returns-in_err-room-clause-any_moment g c = λ lists settled. leaves_none _ lists lists settled
 
 pub returns-in_err-room-clause-mail_stays : goal.returns-in_err-room-clause-mail_stays
-returns-in_err-room-clause-mail_stays g c = λ m.
-    subst (λ v. MailIsKept m (g.D.Disk.history v.disk) (g.D.Disk.history c.self.inside.disk)) c.self.view_is (kept_begins m _)
+returns-in_err-room-clause-mail_stays g c = λ m. kept_begins m _
 
 pub returns-in_err-root_room-clause-any_moment : goal.returns-in_err-root_room-clause-any_moment
-returns-in_err-root_room-clause-any_moment g c =
-    subst (λ v. (lists : Lists) → IsSettledFor lists (g.D.Disk.history v.disk) → Leaves lists lists (g.D.Disk.history v.disk) (g.D.Disk.history c.self.inside.disk)) c.self.view_is (λ lists settled. leaves_none _ lists lists settled)
+returns-in_err-root_room-clause-any_moment g c = λ lists settled. leaves_none _ lists lists settled
 
 pub returns-in_err-root_room-clause-mail_stays : goal.returns-in_err-root_room-clause-mail_stays
-returns-in_err-root_room-clause-mail_stays g c = λ m.
-    subst (λ v. MailIsKept m (g.D.Disk.history v.disk) (g.D.Disk.history c.self.inside.disk)) c.self.view_is (kept_begins m _)
+returns-in_err-root_room-clause-mail_stays g c = λ m. kept_begins m _
 
 pub returns-in_err-map-clause-any_moment : goal.returns-in_err-map-clause-any_moment
-returns-in_err-map-clause-any_moment g c =
-    subst (λ v. (lists : Lists) → IsSettledFor lists (g.D.Disk.history v.disk) → Leaves lists lists (g.D.Disk.history v.disk) (g.D.Disk.history c.self.inside.disk)) c.self.view_is (λ lists settled. leaves_none _ lists lists settled)
+returns-in_err-map-clause-any_moment g c = λ lists settled. leaves_none _ lists lists settled
 
 pub returns-in_err-map-clause-mail_stays : goal.returns-in_err-map-clause-mail_stays
-returns-in_err-map-clause-mail_stays g c = λ m.
-    subst (λ v. MailIsKept m (g.D.Disk.history v.disk) (g.D.Disk.history c.self.inside.disk)) c.self.view_is (kept_begins m _)
+returns-in_err-map-clause-mail_stays g c = λ m. kept_begins m _
 
 pub invariant_of-self : goal.invariant_of-self
 invariant_of-self g c =

@@ -9,7 +9,7 @@ use Rattle.store_core.proofs.store.Store.name_map.Goals as goal
 
 pub invariant_of-self : goal.invariant_of-self
 invariant_of-self g c =
-    let roomy = roomy_as _ _ _ c.take_room.ensures in
+    let roomy = roomy_as c.take_room.new.self c.self.inside.root_log _ c.take_room.ensures in
     let can = can_name_map g.D.Disk.history _ c.args.self.now c.take_room.new.self _ c.args.draft c.self.invariant.1 c.self.view_is c.draft.view_is roomy c.requires.running c.requires.held c.requires.means in
     let root_name = ap (λ (l : LogState). l.name) c.take_room.ensures ∙ c.self.invariant.1.root_name in
     let others = subst (λ name. SameButFor name (g.D.Disk.history c.self.inside.disk) (g.D.Disk.history c.append_root.new.disk)) root_name c.in-Ok.ensures.others in (
@@ -22,7 +22,7 @@ invariant_of-self g c =
 
 pub returns-in-Ok-clause-any_moment : goal.returns-in-Ok-clause-any_moment
 returns-in-Ok-clause-any_moment g c =
-    let roomy = roomy_as _ _ _ c.take_room.ensures in
+    let roomy = roomy_as c.take_room.new.self c.self.inside.root_log _ c.take_room.ensures in
     let can = can_name_map g.D.Disk.history _ c.args.self.now c.take_room.new.self _ c.args.draft c.self.invariant.1 c.self.view_is c.draft.view_is roomy c.requires.running c.requires.held c.requires.means in
     subst (λ v. (lists : Lists) → IsSettledFor lists (g.D.Disk.history v.disk) → Leaves lists lists (g.D.Disk.history v.disk) (g.D.Disk.history c.append_root.new.disk)) c.self.view_is
     (leaves_named _ _ _ _ can (g.met.D.Disk.reads_image c.self.inside.disk) c.append_root.ensures.any_moment)
@@ -34,7 +34,7 @@ returns-in-Ok-clause-mail_stays g c = λ m.
 
 pub returns-in-Err-clause-any_moment : goal.returns-in-Err-clause-any_moment
 returns-in-Err-clause-any_moment g c =
-    let roomy = roomy_as _ _ _ c.take_room.ensures in
+    let roomy = roomy_as c.take_room.new.self c.self.inside.root_log _ c.take_room.ensures in
     let can = can_name_map g.D.Disk.history _ c.args.self.now c.take_room.new.self _ c.args.draft c.self.invariant.1 c.self.view_is c.draft.view_is roomy c.requires.running c.requires.held c.requires.means in
     subst (λ v. (lists : Lists) → IsSettledFor lists (g.D.Disk.history v.disk) → Leaves lists lists (g.D.Disk.history v.disk) (g.D.Disk.history c.append_root.new.disk)) c.self.view_is
     (leaves_named _ _ _ _ can (g.met.D.Disk.reads_image c.self.inside.disk) c.append_root.ensures.any_moment)
@@ -46,7 +46,7 @@ returns-in-Err-clause-mail_stays g c = λ m.
 
 pub returns-in-Ok-clause-settled : goal.returns-in-Ok-clause-settled
 returns-in-Ok-clause-settled g c =
-    let roomy = roomy_as _ _ _ c.take_room.ensures in
+    let roomy = roomy_as c.take_room.new.self c.self.inside.root_log _ c.take_room.ensures in
     let can = can_name_map g.D.Disk.history _ c.args.self.now c.take_room.new.self _ c.args.draft c.self.invariant.1 c.self.view_is c.draft.view_is roomy c.requires.running c.requires.held c.requires.means in
     subst (λ v. (lists : Lists) → IsSettledFor lists (g.D.Disk.history v.disk) → IsSettledFor lists (g.D.Disk.history c.append_root.new.disk)) c.self.view_is
     (settled_named _ _ _ _ c.append_root.new.log can (g.met.D.Disk.reads_image c.self.inside.disk) c.in-Ok.ensures.log c.in-Ok.ensures.others c.in-Ok.ensures.held)
