@@ -1,6 +1,6 @@
 // What is told on standard error after what the run told: why a call of the system failed, and what else an administrator wants to know.
 use crate::asked::Asked;
-use crate::dovecot::has_mail_file;
+use crate::dovecot::lacks_mail_file;
 use crate::version::proof;
 use mdbox_base::give_all;
 use os_folder::{OsFolder, StdClock, StdSink, StdSource};
@@ -67,7 +67,7 @@ pub(crate) fn tell_more(rt: HostRuntime, errors: &mut StdSink<Stderr>, asked: &A
             let _ = give_all(errors, b"a word isn't UTF-8\n");
         }
         Asked::Version => tell(errors, format!(in rt.alloc(); "{}\n", proof())),
-        Asked::Rebuild if !has_mail_file(&rt) => {
+        Asked::Rebuild if lacks_mail_file(&rt) => {
             let _ = give_all(
                 errors,
                 b"mdbox: there is no storage file here: the store is empty\n",

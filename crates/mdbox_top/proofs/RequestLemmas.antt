@@ -1,6 +1,6 @@
 -- How a request alone ends, whatever its reply tells.
 use Rattle.std.specs.Prelude.{◌≡◌, ◌⊎◌, ℕ, List, [], ◌∷◌, Option, Some, None}
-use Rattle.std.proofs.Common.{refl, sym, ◌∙◌, ap, subst, inl, inr, append-nil, arith}
+use Rattle.std.proofs.Common.{refl, sym, ◌∙◌, ap, subst, inl, inr, arith}
 use Rattle.disk_model.specs.Disk.{History, Faults, EachImage, IsIdle}
 use Rattle.disk_model.proofs.IdleLemmas.{idle-begins}
 use Rattle.disk_model.proofs.MomentLemmas.{since-begins, if_told-all}

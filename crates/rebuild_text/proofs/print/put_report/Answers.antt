@@ -1,5 +1,5 @@
 use Rattle.std.proofs.lemmas.Result.{err_from_is_err_and, on_ok_weaker, on_err_weaker}
-use Rattle.piece_writer.proofs.PieceLemmas.{cut_before, cut_more, cut_nothing, passed_more}
+use Rattle.piece_writer.proofs.PieceLemmas.{cut_before, cut_more, passed_more}
 use Rattle.request_text.proofs.ReplyPrintLemmas.{line_cut, line_passed}
 use Rattle.rebuild_text.proofs.print.put_report.Goals as goal
 
@@ -7,11 +7,6 @@ pub returns-in_err-put_lines-clause-err : goal.returns-in_err-put_lines-clause-e
 returns-in_err-put_lines-clause-err g c =
     let p = err_from_is_err_and c.from_residual.result c.from_residual.ensures.1 in
     rw p.1 (cut_before _ _ c.args.writer.now.piece _ _ c.in_err-put_lines.ensures.err)
-
-pub returns-in_err-line-clause-err : goal.returns-in_err-line-clause-err
-returns-in_err-line-clause-err g c =
-    let p = err_from_is_err_and c.from_residual-in_err-line.result c.from_residual-in_err-line.ensures.1 in
-    rw p.1 (cut_more _ _ _ c.args.writer.now.piece c.put_lines.new.writer.piece _ _ c.in_ok-put_lines.ensures.ok (cut_nothing _ c.put_lines.new.writer.piece _))
 
 pub returns-clause-ok : goal.returns-clause-ok
 returns-clause-ok g c =
