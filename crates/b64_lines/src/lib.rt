@@ -6,6 +6,7 @@ pub use size::{text_length, text_size};
 pub use write::{push_lines, write_lines};
 pub use writer::LineWriter;
 
+mod pairs;
 mod read;
 mod size;
 mod write;

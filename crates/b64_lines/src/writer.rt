@@ -1,8 +1,10 @@
 // Base64 text, written piece by piece into a slice.
 ghost use Rattle.std.specs.Prelude.{◌≡◌, ◌≤◌, ◌<◌, ◌+◌, ◌*◌, ◌/◌, ◌++◌, [], ℕ, List, length, take, drop};
 ghost use Rattle.model_base64.specs.Base64Text.{IsForm, line_break, padded, text_of};
+ghost use Rattle.b64_lines.specs.Pairs.{ArePairs};
 ghost use Rattle.b64_lines.specs.Writer.{HasWrittenText};
 
+use crate::pairs::{PAIRS, put_groups, symbol_pairs};
 use base64::engine::general_purpose::STANDARD;
 use mdbox_base::LineForm;
 use std::marker::Model;
@@ -20,18 +22,21 @@ pub struct LineWriter {
     /// The octets that are kept, as many as `kept`.
     line: [u8; LONGEST],
     kept: usize,
+    /// Two symbols for each twelve bits.
+    pairs: [u8; PAIRS],
 }
 
 impl Model for LineWriter {
     ghost use Rattle.std.specs.Prelude.{◌≤◌, ◌*◌, ◌/◌, take};
     ghost use Rattle.model_base64.specs.Base64Text.{IsForm};
+    ghost use Rattle.b64_lines.specs.Pairs.{ArePairs};
     ghost use Rattle.b64_lines.specs.Writer.{WriterValue};
 
     ghost Value = { WriterValue };
 
     ghost view = { λ w. record { form = w.form; at = w.at; carry = take w.kept w.line } };
 
-    ghost invariant = { λ w. IsForm w.form × (w.kept ≤ w.form.length / 4 * 3) };
+    ghost invariant = { λ w. IsForm w.form × (w.kept ≤ w.form.length / 4 * 3) × ArePairs w.pairs };
 }
 
 impl LineWriter {
@@ -45,6 +50,7 @@ impl LineWriter {
             at: 0,
             line: [0; LONGEST],
             kept: 0,
+            pairs: symbol_pairs(),
         }
     }
 
@@ -64,8 +70,14 @@ impl LineWriter {
         if rest.is_empty() {
             return;
         }
-        let at = put_line(into, self.at, &self.line[..self.kept], form.crlf);
-        let (at, last) = put_lines(into, at, form, rest);
+        let at = put_line(
+            into,
+            self.at,
+            &self.line[..self.kept],
+            form.crlf,
+            &self.pairs,
+        );
+        let (at, last) = put_lines(into, at, form, rest, &self.pairs);
         self.at = at;
         self.kept = put_behind(&mut self.line, 0, last);
     }
@@ -81,8 +93,9 @@ impl LineWriter {
             at,
             line,
             kept,
+            pairs,
         } = self;
-        put_encoded(into, at, &line[..kept]);
+        put_encoded(into, at, &line[..kept], &pairs);
     }
 }
 
@@ -107,7 +120,25 @@ fn put_behind(line: &mut [u8; LONGEST], kept: usize, octets: &[u8]) -> usize
 }
 
 /// Writes the padded encoding of the octets of a line at a place, and answers where it ends.
-fn put_encoded(into: &mut [u8], at: usize, octets: &[u8]) -> usize
+fn put_encoded(into: &mut [u8], at: usize, octets: &[u8], pairs: &[u8; PAIRS]) -> usize
+    requires pairs { ArePairs pairs.now }
+    requires room { at + length (padded octets.now) ≤ length into.old }
+    ensures put { take result into.new ≡ take at into.old ++ padded octets.now }
+    ensures behind { drop result into.new ≡ drop result into.old }
+    ensures end { result ≡ at + length (padded octets.now) }
+    ensures size { length into.new ≡ length into.old }
+{
+    let (groups, last) = octets.split_at(octets.len() / 3 * 3);
+    let end = put_groups(into, at, groups, pairs);
+    if last.is_empty() {
+        end
+    } else {
+        put_last(into, end, last)
+    }
+}
+
+/// The same of the last octets of a line.
+fn put_last(into: &mut [u8], at: usize, octets: &[u8]) -> usize
     requires { at + length (padded octets.now) ≤ length into.old }
     ensures put { take result into.new ≡ take at into.old ++ padded octets.now }
     ensures behind { drop result into.new ≡ drop result into.old }
@@ -121,14 +152,15 @@ fn put_encoded(into: &mut [u8], at: usize, octets: &[u8]) -> usize
 }
 
 /// Writes a line and the break behind it at a place, and answers where they end.
-fn put_line(into: &mut [u8], at: usize, octets: &[u8], crlf: bool) -> usize
-    requires { at + length (padded octets.now ++ line_break crlf) ≤ length into.old }
+fn put_line(into: &mut [u8], at: usize, octets: &[u8], crlf: bool, pairs: &[u8; PAIRS]) -> usize
+    requires pairs { ArePairs pairs.now }
+    requires room { at + length (padded octets.now ++ line_break crlf) ≤ length into.old }
     ensures put { take result into.new ≡ take at into.old ++ (padded octets.now ++ line_break crlf) }
     ensures behind { drop result into.new ≡ drop result into.old }
     ensures end { result ≡ at + length (padded octets.now ++ line_break crlf) }
     ensures size { length into.new ≡ length into.old }
 {
-    let end = put_encoded(into, at, octets);
+    let end = put_encoded(into, at, octets, pairs);
     if crlf {
         into[end] = b'\r';
         into[end + 1] = b'\n';
@@ -140,7 +172,14 @@ fn put_line(into: &mut [u8], at: usize, octets: &[u8], crlf: bool) -> usize
 }
 
 /// Writes all lines of a text behind which others come, and answers where they end and the octets of the last line.
-fn put_lines<'a>(into: &mut [u8], at: usize, form: LineForm, octets: &'a [u8]) -> (usize, &'a [u8])
+fn put_lines<'a>(
+    into: &mut [u8],
+    at: usize,
+    form: LineForm,
+    octets: &'a [u8],
+    pairs: &[u8; PAIRS],
+) -> (usize, &'a [u8])
+    requires pairs { ArePairs pairs.now }
     requires form { IsForm form }
     requires room { at + length (text_of form octets.now) ≤ length into.old }
     ensures written { (more : List ℕ) → take result.0 into.new ++ text_of form (result.1.now ++ more) ≡ take at into.old ++ text_of form (octets.now ++ more) }
@@ -155,7 +194,7 @@ fn put_lines<'a>(into: &mut [u8], at: usize, form: LineForm, octets: &'a [u8]) -
     let mut rest = octets;
     while rest.len() > size {
         let (line, behind) = rest.split_at(size);
-        at = put_line(into, at, line, form.crlf);
+        at = put_line(into, at, line, form.crlf, pairs);
         rest = behind;
     }
     (at, rest)

@@ -10,7 +10,7 @@ use Rattle.attach_join.specs.Spread.{outside}
 use Rattle.attach_join.proofs.KeptLemmas.{kept_length, sizes_within}
 use Rattle.model_attach.specs.Rejoined.{IsWhole}
 use Rattle.model_base64.specs.Base64Text.{IsForm}
-use Rattle.mail_fetch.specs.Held.{HasOctetRoom, IsHeld, IsLost, IsSpread, instance_octets, octets_held}
+use Rattle.mail_fetch.specs.Held.{HasOctetRoom, HoldsPart, IsLost, IsSpread, octets_of_instances, octets_held}
 use Rattle.mail_fetch.specs.Room.{IsCut}
 use Rattle.mail_fetch.specs.declared.held.Held.{Held}
 use Rattle.mail_fetch.specs.declared.held.Held.TheVariants as held
@@ -32,7 +32,7 @@ spread_parts from head whole tail refs kept =
     let rest : List ℕ = take kept (kept_in refs from.instances whole) in
     ap (λ (xs : List ℕ). head ++ xs) (sym (append_assoc (outside refs whole) tail rest)) ∙ sym (append_assoc head (outside refs whole ++ tail) rest)
 
-pub kept_many : (from : StoredAt) (head whole tail : List ℕ) (refs : List ExtRef) (kept : ℕ) → IsSpread from head whole tail refs kept → length (kept_in refs from.instances whole) ≡ instance_octets from
+pub kept_many : (from : StoredAt) (head whole tail : List ℕ) (refs : List ExtRef) (kept : ℕ) → IsSpread from head whole tail refs kept → length (kept_in refs from.instances whole) ≡ octets_of_instances from
 kept_many from head whole tail refs kept s = kept_length s.fit.0 refs from.instances whole s.fit.1 (forms_of_spread from head whole tail refs kept s)
 
 pub spread_length : (from : StoredAt) (head whole tail : List ℕ) (refs : List ExtRef) (kept : ℕ) → IsSpread from head whole tail refs kept → length (read_spread from head whole tail refs kept) ≡ from.size + kept
@@ -46,18 +46,18 @@ spread_length from head whole tail refs kept s =
     omega (arith, all, both, size, rest)
 
 -- there is room for more octets of the instances
-pub keep_room : (from : StoredAt) (head : List ℕ) (h : Held) (whole : Vec ℕ) (refs : Vec ExtRef) (tail : Vec ℕ) (kept left count : ℕ) → h ≡ held.Spread whole refs tail kept → IsHeld from head left h → length (head ++ octets_held from.instances h) + count ≤ octets_to_read from
-    → kept + count ≤ instance_octets from
+pub keep_room : (from : StoredAt) (head : List ℕ) (h : Held) (whole : Vec ℕ) (refs : Vec ExtRef) (tail : Vec ℕ) (kept left count : ℕ) → h ≡ held.Spread whole refs tail kept → HoldsPart from head left h → length (head ++ octets_held from.instances h) + count ≤ octets_to_read from
+    → kept + count ≤ octets_of_instances from
 keep_room from head h whole refs tail kept left count is s room =
-    let spread : IsSpread from head whole.items tail.items refs.items kept = subst (IsHeld from head left) is s in
+    let spread : IsSpread from head whole.items tail.items refs.items kept = subst (HoldsPart from head left) is s in
     let there = ap (λ (x : Held). length (head ++ octets_held from.instances x)) is in
     let long = spread_length from head whole.items tail.items refs.items kept spread in
     omega (arith, there, long, room)
 
-pub spread_on : (from : StoredAt) (head : List ℕ) (h : Held) (whole : Vec ℕ) (refs : Vec ExtRef) (tail : Vec ℕ) (new : List ℕ) (kept left count : ℕ) → h ≡ held.Spread whole refs tail kept → IsHeld from head left h → outside refs.items new ≡ outside refs.items whole.items → length new ≡ length whole.items
-    → kept + count ≤ instance_octets from → IsSpread from head new tail.items refs.items (kept + count)
+pub spread_on : (from : StoredAt) (head : List ℕ) (h : Held) (whole : Vec ℕ) (refs : Vec ExtRef) (tail : Vec ℕ) (new : List ℕ) (kept left count : ℕ) → h ≡ held.Spread whole refs tail kept → HoldsPart from head left h → outside refs.items new ≡ outside refs.items whole.items → length new ≡ length whole.items
+    → kept + count ≤ octets_of_instances from → IsSpread from head new tail.items refs.items (kept + count)
 spread_on from head h whole refs tail new kept left count is held_is same size few =
-    let s : IsSpread from head whole.items tail.items refs.items kept = subst (IsHeld from head left) is held_is in
+    let s : IsSpread from head whole.items tail.items refs.items kept = subst (HoldsPart from head left) is held_is in
     let moved = subst (λ (xs : List ℕ). (stored : IsStoredMessage from (head ++ (xs ++ tail.items))) × (xs ≡ stored.message.body) × (refs.items ≡ stored.meta.refs) × (length (head ++ (xs ++ tail.items)) ≡ from.size)) (sym same) (s.stored, s.body, s.refs_are, s.size) in
     record {
       stored = moved.0;
@@ -81,10 +81,10 @@ lost_on from read new piece left is lost more whole few h =
     let both = length-append piece more in
     lost (piece ++ more) whole (omega (arith, both, few)) (subst (λ (xs : List ℕ). HoldsWhole from xs whole) (ap (λ (xs : List ℕ). xs ++ more) is ∙ append_assoc read piece more) h)
 
-pub damaged_on : (from : StoredAt) (head new_head : List ℕ) (h : Held) (octets new : Vec ℕ) (piece : List ℕ) (left : ℕ) → h ≡ held.Damaged octets → IsHeld from head (left + length piece) h → new_head ++ new.items ≡ (head ++ octets.items) ++ piece
+pub damaged_on : (from : StoredAt) (head new_head : List ℕ) (h : Held) (octets new : Vec ℕ) (piece : List ℕ) (left : ℕ) → h ≡ held.Damaged octets → HoldsPart from head (left + length piece) h → new_head ++ new.items ≡ (head ++ octets.items) ++ piece
     → IsCut new_head new.items → vec_capacity octets ≤ vec_capacity new → HasOctetRoom from new_head new × IsLost from (new_head ++ new.items) left
 damaged_on from head new_head h octets new piece left is held_is read cut more =
-    let d : HasOctetRoom from head octets × IsLost from (head ++ octets.items) (left + length piece) = subst (IsHeld from head (left + length piece)) is held_is in
+    let d : HasOctetRoom from head octets × IsLost from (head ++ octets.items) (left + length piece) = subst (HoldsPart from head (left + length piece)) is held_is in
     (record { cut = cut; room = let room = d.0.room in omega (arith, room, more) }, lost_on from (head ++ octets.items) (new_head ++ new.items) piece left read d.1)
 
 -- where the region ends, and what is behind it
@@ -99,7 +99,7 @@ region_ends from head octets more size long =
 
 -- a region whose body has no whole with instances of these sizes
 pub lost_unfit : (from : StoredAt) (head octets : List ℕ) (size left : ℕ) (refs : List ExtRef) → FoundStored from head octets size refs → length (head ++ octets) ≡ from.size
-    → ((text body instances : List ℕ) → IsWhole text body refs (octets_in from.instances instances) → length body ≡ size → instance_octets from ≤ length instances → length text ≡ from.listed → ⊥) → IsLost from (head ++ octets) left
+    → ((text body instances : List ℕ) → IsWhole text body refs (octets_in from.instances instances) → length body ≡ size → octets_of_instances from ≤ length instances → length text ≡ from.listed → ⊥) → IsLost from (head ++ octets) left
 lost_unfit from head octets size left refs f long none more whole few h =
     let cut = region_ends from head octets more long h.long in
     let all = length-append (head ++ octets) more in
@@ -114,7 +114,7 @@ lost_stored from head octets left long none more whole few h =
     none (subst (IsStoredMessage from) (ap (take from.size) (append_assoc head octets more) ∙ cut.region) h.stored)
 
 -- octets that are missing
-pub lost_short : (from : StoredAt) (read : List ℕ) (left : ℕ) → length read < from.size → left ≤ instance_octets from → IsLost from read left
+pub lost_short : (from : StoredAt) (read : List ℕ) (left : ℕ) → length read < from.size → left ≤ octets_of_instances from → IsLost from read left
 lost_short from read left short most more whole few h =
     let all = length-append read more in
     let total = h.long in
@@ -123,7 +123,7 @@ lost_short from read left short most more whole few h =
 -- ---- the whole
 
 -- Once all octets of the instances are kept, what is written is the message.
-pub spread_is_whole : (from : StoredAt) (head whole tail octets : List ℕ) (refs : List ExtRef) (kept : ℕ) → IsSpread from head whole tail refs kept → kept ≡ instance_octets from → length octets ≡ length whole
+pub spread_is_whole : (from : StoredAt) (head whole tail octets : List ℕ) (refs : List ExtRef) (kept : ℕ) → IsSpread from head whole tail refs kept → kept ≡ octets_of_instances from → length octets ≡ length whole
     → IsWhole octets (outside refs whole) refs (octets_in from.instances (kept_in refs from.instances whole)) → HoldsWhole from (read_spread from head whole tail refs kept) octets
 spread_is_whole from head whole tail octets refs kept s all size joined =
     let rest : List ℕ = take kept (kept_in refs from.instances whole) in
@@ -147,7 +147,7 @@ spread_is_whole from head whole tail octets refs kept s all size joined =
         (λ s whole size. record { long = long; stored = s; whole = subst (λ (xs : List ℕ). IsWhole octets s.message.body s.meta.refs (octets_in from.instances xs)) (sym back) whole; size = size })
 
 -- before that it isn't
-pub spread_too_few : (from : StoredAt) (head whole tail octets : List ℕ) (refs : List ExtRef) (kept : ℕ) → IsSpread from head whole tail refs kept → (kept ≡ instance_octets from → ⊥) → HoldsWhole from (read_spread from head whole tail refs kept) octets → ⊥
+pub spread_too_few : (from : StoredAt) (head whole tail octets : List ℕ) (refs : List ExtRef) (kept : ℕ) → IsSpread from head whole tail refs kept → (kept ≡ octets_of_instances from → ⊥) → HoldsWhole from (read_spread from head whole tail refs kept) octets → ⊥
 spread_too_few from head whole tail octets refs kept s differs h =
     let long = spread_length from head whole tail refs kept s in
     let total = h.long in
@@ -160,14 +160,14 @@ lost_now from read octets left lost h = lost [] octets (omega arith) (subst (λ 
 -- ---- what is held
 
 -- fewer octets may come
-pub held_less : (from : StoredAt) (head : List ℕ) (less left : ℕ) (h : Held) → less ≤ left → IsHeld from head left h → IsHeld from head less h
+pub held_less : (from : StoredAt) (head : List ℕ) (less left : ℕ) (h : Held) → less ≤ left → HoldsPart from head left h → HoldsPart from head less h
 held_less from head less left (held.AsRead octets refs tail) le h = h
 held_less from head less left (held.Spread whole refs tail kept) le h = h
 held_less from head less left (held.Damaged octets) le h = (h.0, λ more whole few. h.1 more whole (omega (arith, few, le)))
 
-pub kept_small : (from : StoredAt) (head : List ℕ) (h : Held) (whole : Vec ℕ) (refs : Vec ExtRef) (tail : Vec ℕ) (kept left : ℕ) → h ≡ held.Spread whole refs tail kept → IsHeld from head left h → instance_octets from ≤ length whole.items
+pub kept_small : (from : StoredAt) (head : List ℕ) (h : Held) (whole : Vec ℕ) (refs : Vec ExtRef) (tail : Vec ℕ) (kept left : ℕ) → h ≡ held.Spread whole refs tail kept → HoldsPart from head left h → octets_of_instances from ≤ length whole.items
 kept_small from head h whole refs tail kept left is held_is =
-    let s : IsSpread from head whole.items tail.items refs.items kept = subst (IsHeld from head left) is held_is in
+    let s : IsSpread from head whole.items tail.items refs.items kept = subst (HoldsPart from head left) is held_is in
     sizes_within s.fit.0 (length whole.items) refs.items from.instances s.fit.1 (forms_of_spread from head whole.items tail.items refs.items kept s)
 
 -- the body of the region that was read is spread

@@ -4,7 +4,7 @@ use Rattle.mail_fetch.proofs.Common.{IsPart, Part, StoredAt}
 use Rattle.std.specs.Prelude.{All, ◌<◌, ◌⊎◌, min, vec_capacity}
 use Rattle.std.specs.Global.{Vec}
 use Rattle.mail_fetch.specs.Parts.{first_read}
-use Rattle.mail_fetch.specs.Room.{HasLeft}
+use Rattle.mail_fetch.specs.Room.{IsPartlyRead}
 use Rattle.mail_fetch.proofs.PartLemmas.{first_size, range_after, sizes_after}
 
 -- A block into which a piece was read.
@@ -16,7 +16,7 @@ pub piece_few : (left rest : List Part) (part : Part) (block : List ℕ) (count 
 piece_few left rest part block count at few = subst (λ (ps : List Part). length (take count block) ≤ first_size ps) (sym at) (let size = length-take count block in omega (arith, size, few))
 
 -- There is room for it.
-pub piece_fits : (from : StoredAt) (total : ℕ) (head : Vec ℕ) (read : List ℕ) (left : List Part) (piece : List ℕ) → HasLeft from total head read left → length piece ≤ first_size left → length read + length piece ≤ octets_to_read from
+pub piece_fits : (from : StoredAt) (total : ℕ) (head : Vec ℕ) (read : List ℕ) (left : List Part) (piece : List ℕ) → IsPartlyRead from total head read left → length piece ≤ first_size left → length read + length piece ≤ octets_to_read from
 piece_fits from total head read left piece h few = let fits = h.fits in let is = h.total_is in let sizes = sizes_after left in omega (arith, fits, is, sizes, few)
 
 -- what a disk told of the first part is the next piece
@@ -35,8 +35,8 @@ piece_seen history region seen joined piece after same joins goes told =
     as_read xs ps = record { from = region.from; octets = xs; left = ps }
 
 -- There is still room.
-pub room_on : (from : StoredAt) (total : ℕ) (head more_head : Vec ℕ) (read more : List ℕ) (left after : List Part) (piece : List ℕ) → HasLeft from total head read left → vec_capacity head ≤ vec_capacity more_head
-    → more ≡ read ++ piece → length piece ≤ first_size left → after ≡ left_after left → HasLeft from total more_head more after
+pub room_on : (from : StoredAt) (total : ℕ) (head more_head : Vec ℕ) (read more : List ℕ) (left after : List Part) (piece : List ℕ) → IsPartlyRead from total head read left → vec_capacity head ≤ vec_capacity more_head
+    → more ≡ read ++ piece → length piece ≤ first_size left → after ≡ left_after left → IsPartlyRead from total more_head more after
 room_on from total head more_head read more left after piece h heads items few goes = record {
   total_is = h.total_is;
   head_room = let first = h.head_room in omega (arith, first, heads);
@@ -65,7 +65,7 @@ first_passed old new now next after first is goes same =
     (λ some. let at : after ≡ 1 = omega (arith, some, first, goes) in ap (λ (n : ℕ). drop n now) at ∙ behind, λ none. behind)
 
 -- while the region isn't passed, what was read is of it
-pub region_within : (from : StoredAt) (total : ℕ) (head : Vec ℕ) (read : List ℕ) (parts : List Part) (next : ℕ) → HasLeft from total head read (drop next parts) → next ≡ 0 → octets_left (drop 1 parts) ≡ sum_by (λ row. row.size) from.instances → length read ≤ from.size
+pub region_within : (from : StoredAt) (total : ℕ) (head : Vec ℕ) (read : List ℕ) (parts : List Part) (next : ℕ) → IsPartlyRead from total head read (drop next parts) → next ≡ 0 → octets_left (drop 1 parts) ≡ sum_by (λ row. row.size) from.instances → length read ≤ from.size
 region_within from total head read parts next h first behind =
     let fits = h.fits in
     let is = h.total_is in
@@ -78,7 +78,7 @@ region_within from total head read parts next h first behind =
     fewer_behind (p ∷ ps) = let sum = sum_by-cons (λ (q : Part). q.size) p ps in omega (arith, sum)
 
 -- once it is passed, the instances are left
-pub region_passed : (from : StoredAt) (total : ℕ) (head : Vec ℕ) (read : List ℕ) (after old : List Part) → HasLeft from total head read after → after ≡ drop 1 old → octets_left (drop 1 old) ≡ sum_by (λ row. row.size) from.instances
+pub region_passed : (from : StoredAt) (total : ℕ) (head : Vec ℕ) (read : List ℕ) (after old : List Part) → IsPartlyRead from total head read after → after ≡ drop 1 old → octets_left (drop 1 old) ≡ sum_by (λ row. row.size) from.instances
     → (length read ≤ from.size) × (octets_left after ≤ sum_by (λ row. row.size) from.instances)
 region_passed from total head read after old h goes behind =
     let fits = h.fits in

@@ -25,8 +25,8 @@ IsUnknown (held.AsRead octets refs tail) = Unit {0}
 IsUnknown other = ⊥
 
 -- how many octets the instances of a message have
-abbrev pub instance_octets : StoredAt → ℕ
-instance_octets from = sum_by (λ row. row.size) from.instances
+abbrev pub octets_of_instances : StoredAt → ℕ
+octets_of_instances from = sum_by (λ row. row.size) from.instances
 
 -- There is room for all octets that are to be read, the header aside or not.
 pub record HasOctetRoom (from : StoredAt) (head : List ℕ) (octets : Vec ℕ) : Type 0 where
@@ -49,14 +49,14 @@ pub record IsSpread (from : StoredAt) (head whole tail : List ℕ) (refs : List 
   pub size : length (head ++ (outside refs whole ++ tail)) ≡ from.size
   pub listed : length whole ≡ from.listed
   pub fit : (count : ℕ) × FitInto (length whole) count refs from.instances
-  pub few : kept ≤ instance_octets from
+  pub few : kept ≤ octets_of_instances from
 
 -- What was read is damaged, whatever comes, where at most so many octets come.
 abbrev pub IsLost : StoredAt → List ℕ → ℕ → Type 0
 IsLost from read left = (more whole : List ℕ) → length more ≤ left → HoldsWhole from (read ++ more) whole → ⊥
 
 -- what is held behind this header, where at most so many octets come
-abbrev pub IsHeld : StoredAt → List ℕ → ℕ → Held → Type 0
-IsHeld from head left (held.AsRead octets refs tail) = HasOctetRoom from head octets × HasJoinRoom from octets refs tail
-IsHeld from head left (held.Spread whole refs tail kept) = IsSpread from head whole.items tail.items refs.items kept
-IsHeld from head left (held.Damaged octets) = HasOctetRoom from head octets × IsLost from (head ++ octets.items) left
+abbrev pub HoldsPart : StoredAt → List ℕ → ℕ → Held → Type 0
+HoldsPart from head left (held.AsRead octets refs tail) = HasOctetRoom from head octets × HasJoinRoom from octets refs tail
+HoldsPart from head left (held.Spread whole refs tail kept) = IsSpread from head whole.items tail.items refs.items kept
+HoldsPart from head left (held.Damaged octets) = HasOctetRoom from head octets × IsLost from (head ++ octets.items) left

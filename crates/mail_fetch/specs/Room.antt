@@ -17,7 +17,7 @@ pub record IsCut (head octets : List ℕ) : Type 0 where
   pub order : length head < 30 → octets ≡ []
 
 -- So many octets are to be read, of which these were, and these parts are left.
-pub record HasLeft (from : StoredAt) (total : ℕ) (head : Vec ℕ) (read : List ℕ) (left : List Part) : Type 0 where
+pub record IsPartlyRead (from : StoredAt) (total : ℕ) (head : Vec ℕ) (read : List ℕ) (left : List Part) : Type 0 where
   pub total_is : total ≡ octets_to_read from
   pub head_room : 30 ≤ vec_capacity head
   pub fits : length read + sum_by (λ part. part.size) left ≤ total

@@ -1,6 +1,6 @@
 // What was read of a message behind its header.
 ghost use Rattle.std.specs.Prelude.{◌≡◌, ◌≢◌, ◌≤◌, ◌+◌, ◌++◌, true, false, ℕ, List, [], length, vec_capacity};
-ghost use Rattle.mail_fetch.specs.Held.{HasJoinRoom, HasOctetRoom, IsHeld, IsUnknown, instance_octets, octets_held};
+ghost use Rattle.mail_fetch.specs.Held.{HasJoinRoom, HasOctetRoom, HoldsPart, IsUnknown, octets_of_instances, octets_held};
 ghost use Rattle.mail_fetch.specs.Parts.{octets_to_read};
 ghost use Rattle.mail_fetch.specs.Room.{IsCut};
 
@@ -37,11 +37,11 @@ pub enum Held {
 
 /// Adds a piece behind what was read.
 pub fn with_piece(from: &StoredAt, head: &mut Vec<u8>, held: Held, piece: &[u8]) -> Held
-    requires held { (left : ℕ) × IsHeld from.now head.old.items left held }
+    requires held { (left : ℕ) × HoldsPart from.now head.old.items left held }
     requires head_room { 30 ≤ vec_capacity head.old }
     requires room { length (head.old.items ++ octets_held from.now.instances held) + length piece.now ≤ octets_to_read from.now }
     ensures read { head.new.items ++ octets_held from.now.instances result ≡ (head.old.items ++ octets_held from.now.instances held) ++ piece.now }
-    ensures held { (left : ℕ) → IsHeld from.now head.old.items (left + length piece.now) held → IsHeld from.now head.new.items left result }
+    ensures held { (left : ℕ) → HoldsPart from.now head.old.items (left + length piece.now) held → HoldsPart from.now head.new.items left result }
     ensures known { IsUnknown result → IsUnknown held }
     ensures head_room { vec_capacity head.old ≤ vec_capacity head.new }
 {
@@ -77,9 +77,9 @@ pub fn with_piece(from: &StoredAt, head: &mut Vec<u8>, held: Held, piece: &[u8])
 /// The same octets, once all is read that is there of the region: then it is known of a message with instances whether its region is the
 /// one that is stored there, and if so its body is spread.
 pub fn settled(from: &StoredAt, head: &[u8], held: Held) -> Held
-    requires held { (left : ℕ) × IsHeld from.now head.now left held }
+    requires held { (left : ℕ) × HoldsPart from.now head.now left held }
     ensures octets { octets_held from.now.instances result ≡ octets_held from.now.instances held }
-    ensures held { (left : ℕ) → IsHeld from.now head.now left held → (IsUnknown held → from.now.instances ≢ [] → (length (head.now ++ octets_held from.now.instances held) ≤ from.now.size) × (left ≤ instance_octets from.now)) → IsHeld from.now head.now left result }
+    ensures held { (left : ℕ) → HoldsPart from.now head.now left held → (IsUnknown held → from.now.instances ≢ [] → (length (head.now ++ octets_held from.now.instances held) ≤ from.now.size) × (left ≤ octets_of_instances from.now)) → HoldsPart from.now head.now left result }
     ensures known { IsUnknown result → from.now.instances ≡ [] }
 {
     if from.instances.length() == 0 {
@@ -104,9 +104,9 @@ pub fn settled(from: &StoredAt, head: &[u8], held: Held) -> Held
 
 /// The same if all is read that is there of the region, and else what is held.
 pub fn settled_if(is_read: bool, from: &StoredAt, head: &[u8], held: Held) -> Held
-    requires held { (left : ℕ) × IsHeld from.now head.now left held }
+    requires held { (left : ℕ) × HoldsPart from.now head.now left held }
     ensures octets { octets_held from.now.instances result ≡ octets_held from.now.instances held }
-    ensures held { (left : ℕ) → IsHeld from.now head.now left held → (is_read ≡ true → IsUnknown held → from.now.instances ≢ [] → (length (head.now ++ octets_held from.now.instances held) ≤ from.now.size) × (left ≤ instance_octets from.now)) → IsHeld from.now head.now left result }
+    ensures held { (left : ℕ) → HoldsPart from.now head.now left held → (is_read ≡ true → IsUnknown held → from.now.instances ≢ [] → (length (head.now ++ octets_held from.now.instances held) ≤ from.now.size) × (left ≤ octets_of_instances from.now)) → HoldsPart from.now head.now left result }
     ensures known { IsUnknown result → from.now.instances ≢ [] → (is_read ≡ false) × IsUnknown held }
 {
     if is_read {
@@ -122,7 +122,7 @@ fn settle(from: &StoredAt, head: &[u8], octets: Vec<u8>, refs: Vec<ExtRef>, tail
     requires octets { HasOctetRoom from.now head.now octets }
     requires room { HasJoinRoom from.now octets refs tail }
     ensures octets { octets_held from.now.instances result ≡ octets.items }
-    ensures held { (left : ℕ) → length (head.now ++ octets.items) ≤ from.now.size → left ≤ instance_octets from.now → IsHeld from.now head.now left result }
+    ensures held { (left : ℕ) → length (head.now ++ octets.items) ≤ from.now.size → left ≤ octets_of_instances from.now → HoldsPart from.now head.now left result }
     ensures known { IsUnknown result → from.now.instances ≡ [] }
 {
     if head.len() + octets.len() != from.size as usize || head.len() != HEADER {

@@ -7,7 +7,7 @@ ghost use Rattle.attach_join.specs.Spread.{outside};
 ghost use Rattle.model_attach.specs.Rejoined.{IsWhole};
 ghost use Rattle.model_base64.specs.Base64Text.{IsForm};
 ghost use Rattle.model_store.specs.Stands.{NameInstances};
-ghost use Rattle.mail_fetch.specs.Held.{IsHeld, IsUnknown, octets_held};
+ghost use Rattle.mail_fetch.specs.Held.{HoldsPart, IsUnknown, octets_held};
 ghost use Rattle.mail_fetch.specs.Parts.{octets_to_read};
 ghost use Rattle.mail_fetch.specs.Region.{HoldsWhole, IsStoredMessage, IsToldByLines};
 ghost use Rattle.mail_fetch.specs.Room.{IsCut};
@@ -32,7 +32,7 @@ pub fn message_of(
     total: usize,
     block: &mut [u8],
 ) -> Option<Vec<u8>>
-    requires held { (left : ℕ) × IsHeld from.now head.now left held }
+    requires held { (left : ℕ) × HoldsPart from.now head.now left held }
     requires region { IsUnknown held → from.now.instances ≢ [] → length (head.now ++ octets_held from.now.instances held) ≤ from.now.size }
     requires total { total ≡ octets_to_read from.now }
     requires block { 1 ≤ length block.old }

@@ -3,7 +3,7 @@ ghost use Rattle.std.specs.Prelude.{◌≡◌, ◌≢◌, ◌≤◌, ◌<◌, �
 ghost use Rattle.disk_model.specs.Disk.{IfTold, IsIdle};
 ghost use Rattle.disk_model.specs.FaultCounts.{NoFault, ReadFaultCounted};
 ghost use Rattle.mail_fetch.specs.Events.{next_piece, with_piece};
-ghost use Rattle.mail_fetch.specs.Held.{IsHeld, IsUnknown, octets_held};
+ghost use Rattle.mail_fetch.specs.Held.{HoldsPart, IsUnknown, octets_held};
 ghost use Rattle.mail_fetch.specs.Parts.{KnowsSource, octets_to_read, pieces_left};
 ghost use Rattle.mail_fetch.specs.Region.{unread, IsReplyFor};
 ghost use Rattle.mail_fetch.specs.Task.{most_pieces};
@@ -41,15 +41,15 @@ pub struct Region {
 
 impl Model for Region {
     ghost use Rattle.std.specs.Prelude.{◌≡◌, ◌≢◌, ◌++◌, [], drop, length, sum_by};
-    ghost use Rattle.mail_fetch.specs.Held.{IsHeld, IsUnknown, instance_octets, octets_held};
+    ghost use Rattle.mail_fetch.specs.Held.{HoldsPart, IsUnknown, octets_of_instances, octets_held};
     ghost use Rattle.mail_fetch.specs.Region.{RegionValue};
-    ghost use Rattle.mail_fetch.specs.Room.{HasLeft};
+    ghost use Rattle.mail_fetch.specs.Room.{IsPartlyRead};
 
     ghost Value = { RegionValue };
 
     ghost view = { λ region. record { from = region.from; octets = region.head.items ++ octets_held region.from.instances region.held; left = drop region.next region.parts.items } };
 
-    ghost invariant = { λ region. HasLeft region.from region.total region.head (region.head.items ++ octets_held region.from.instances region.held) (drop region.next region.parts.items) × IsHeld region.from region.head.items (sum_by (λ part. part.size) (drop region.next region.parts.items)) region.held × (IsUnknown region.held → region.from.instances ≢ [] → (region.next ≡ 0) × (sum_by (λ part. part.size) (drop 1 region.parts.items) ≡ instance_octets region.from)) × (length region.block.items ≡ 65536) };
+    ghost invariant = { λ region. IsPartlyRead region.from region.total region.head (region.head.items ++ octets_held region.from.instances region.held) (drop region.next region.parts.items) × HoldsPart region.from region.head.items (sum_by (λ part. part.size) (drop region.next region.parts.items)) region.held × (IsUnknown region.held → region.from.instances ≢ [] → (region.next ≡ 0) × (sum_by (λ part. part.size) (drop 1 region.parts.items) ≡ octets_of_instances region.from)) × (length region.block.items ≡ 65536) };
 }
 
 impl Region {
@@ -146,7 +146,7 @@ impl Region {
 fn nothing_held(alloc: Global, from: &StoredAt, total: usize) -> Result<Held, NoMemory>
     requires { total ≡ octets_to_read from.now }
     ensures none { IfOk result (λ held. octets_held from.now.instances held ≡ []) }
-    ensures held { IfOk result (λ held. (left : ℕ) → IsHeld from.now [] left held) }
+    ensures held { IfOk result (λ held. (left : ℕ) → HoldsPart from.now [] left held) }
     ensures long { IfOk result (λ held. IsUnknown held → from.now.instances ≢ [] → 30 ≤ from.now.size) }
 {
     let count = from.instances.length();

@@ -1,34 +1,52 @@
-use Rattle.std.proofs.Common.{rules, ◌≡◌, ◌≤◌, ◌+◌, ◌*◌, ◌/◌, ◌-◌, ◌%◌, length, take, drop, arith, refl, ap, ℕ, ◌∙◌, List}
-use Rattle.base64.specs.Engines.{standard}
-use Rattle.base64.specs.GeneralPurpose.{encoded_size_of}
-use Rattle.std.proofs.Math.Seq.{drop-append_seam}
-use Rattle.std.proofs.lemmas.List.{length-take-le, length-drop}
-use Rattle.model_base64.proofs.Base64Lemmas.{length-padded}
+use Rattle.std.proofs.Common.{◌≡◌, ◌%◌, ◌∙◌, ◌++◌, List, ℕ, length, length-append, take, sym, ap, append_assoc, arith}
 use Rattle.model_base64.specs.Base64Text.{padded}
-use Rattle.b64_lines.proofs.WriterLemmas.{behind_encoded}
+use Rattle.b64_lines.specs.Pairs.{symbols_of}
+use Rattle.b64_lines.proofs.PairLemmas.{padded_parts}
+use Rattle.b64_lines.proofs.WriterLemmas.{behind_later}
 use Rattle.b64_lines.proofs.writer.put_encoded.Goals as goal
 
-pub unreachable-requires : goal.unreachable-requires
-unreachable-requires c =
-    let size = length-padded c.args.octets.now in
-    let room = c.requires in
-    let left = length-drop c.args.at c.args.into.now in
-    let long = length-take-le (length c.args.into.now - c.args.at) (drop c.args.at c.args.into.now) (omega (arith, left)) in
-    let e = c.in_default.ensures.fits (omega (arith, size, room, long)) in
-    cc e
+pub put_groups-end-requires-clause-room : goal.put_groups-end-requires-clause-room
+put_groups-end-requires-clause-room c =
+    let groups = c.split_at.result.0.now in
+    let last = c.split_at.result.1.now in
+    let three : length groups % 3 ≡ 0 = (let long = c.split_at.ensures.front_len in omega (arith, long)) in
+    let parts = ap length (padded_parts c.args.octets.now groups last c.split_at.ensures.by_index.0 three) in
+    let both = length-append (symbols_of groups) (padded last) in
+    let room = c.requires.room in
+    omega (arith, parts, both, room)
 
-pub returns-clause-behind : goal.returns-clause-behind
-returns-clause-behind c =
-    let within : c.args.at ≤ length c.args.into.now = omega (arith, c.requires) in
-    let long : length c.encode_slice.new.output ≡ length c.args.into.now - c.args.at = c.encode_slice.auto.output ∙ length-take-le (length c.args.into.now - c.args.at) (drop c.args.at c.args.into.now) (omega (arith, length-drop c.args.at c.args.into.now)) in
-    let text = padded c.args.octets.now in
-    let old : List ℕ = take (length c.args.into.now - c.args.at) (drop c.args.at c.args.into.now) in
-    let four = length-padded c.args.octets.now in
-    let room = c.requires in
-    let left = length-drop c.args.at c.args.into.now in
-    let there = length-take-le (length c.args.into.now - c.args.at) (drop c.args.at c.args.into.now) (omega (arith, left)) in
-    let is = c.in-Ok.ensures.fits (omega (arith, four, room, there)) in
-    let same : encoded_size_of standard (length c.args.octets.now) ≡ c.in-Ok.size = cc is in
-    let size : c.in-Ok.size ≡ length text = omega (arith, four, same) in
-    behind_encoded c.args.at c.in-Ok.size (length c.args.into.now - c.args.at) c.args.into.now c.encode_slice.new.output within long refl
-    (ap (λ (n : ℕ). drop n c.encode_slice.new.output) size ∙ ap (drop (length text)) c.in-Ok.ensures.written ∙ drop-append_seam text (drop (encoded_size_of standard (length c.args.octets.now)) old) ∙ ap (λ (n : ℕ). drop n old) same)
+pub put_last-requires : goal.put_last-requires
+put_last-requires c =
+    let groups = c.split_at.result.0.now in
+    let last = c.split_at.result.1.now in
+    let three : length groups % 3 ≡ 0 = (let long = c.split_at.ensures.front_len in omega (arith, long)) in
+    let parts = ap length (padded_parts c.args.octets.now groups last c.split_at.ensures.by_index.0 three) in
+    let both = length-append (symbols_of groups) (padded last) in
+    let room = c.requires.room in
+    let end = c.put_groups-end.ensures.end in
+    let same = c.put_groups-end.ensures.size in
+    omega (arith, parts, both, room, end, same)
+
+pub returns-else-is_empty-clause-put : goal.returns-else-is_empty-clause-put
+returns-else-is_empty-clause-put c =
+    let groups = c.split_at.result.0.now in
+    let last = c.split_at.result.1.now in
+    let three : length groups % 3 ≡ 0 = (let long = c.split_at.ensures.front_len in omega (arith, long)) in
+    c.put_last.ensures.put ∙ ap (λ (xs : List ℕ). xs ++ padded last) c.put_groups-end.ensures.put ∙ append_assoc (take c.args.at c.args.into.now) (symbols_of groups) (padded last)
+    ∙ ap (λ (xs : List ℕ). take c.args.at c.args.into.now ++ xs) (sym (padded_parts c.args.octets.now groups last c.split_at.ensures.by_index.0 three))
+
+pub returns-else-is_empty-clause-behind : goal.returns-else-is_empty-clause-behind
+returns-else-is_empty-clause-behind c =
+    let end = c.put_last.ensures.end in
+    c.put_last.ensures.behind ∙ behind_later c.put_groups-end.result c.put_last.result c.args.into.now c.put_groups-end.new.into (omega (arith, end)) c.put_groups-end.ensures.behind
+
+pub returns-else-is_empty-clause-end : goal.returns-else-is_empty-clause-end
+returns-else-is_empty-clause-end c =
+    let groups = c.split_at.result.0.now in
+    let last = c.split_at.result.1.now in
+    let three : length groups % 3 ≡ 0 = (let long = c.split_at.ensures.front_len in omega (arith, long)) in
+    let parts = ap length (padded_parts c.args.octets.now groups last c.split_at.ensures.by_index.0 three) in
+    let both = length-append (symbols_of groups) (padded last) in
+    let end = c.put_groups-end.ensures.end in
+    let all = c.put_last.ensures.end in
+    omega (arith, parts, both, end, all)

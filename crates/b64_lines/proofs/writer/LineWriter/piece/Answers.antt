@@ -1,10 +1,10 @@
-use Rattle.std.proofs.Common.{rules, ◌≡◌, ◌≤◌, ◌<◌, ◌+◌, ◌-◌, ◌∙◌, ◌*◌, ◌/◌, ◌++◌, ℕ, List, refl, sym, ap, length, take, arith, append_assoc}
+use Rattle.std.proofs.Common.{rules, ◌≡◌, ◌∙◌, ◌*◌, ◌/◌, ◌++◌, ℕ, List, sym, ap, length, take, arith, append_assoc}
 use Rattle.b64_lines.proofs.CutLemmas.{is_some}
 use Rattle.b64_lines.proofs.WriterLemmas.{as_seen, behind_later, full_kept, kept_more, kept_room, piece_written, seen_room}
 use Rattle.b64_lines.proofs.writer.LineWriter.piece.Goals as goal
 
-pub put_line-at-requires : goal.put_line-at-requires
-put_line-at-requires c =
+pub put_line-at-requires-clause-room : goal.put_line-at-requires-clause-room
+put_line-at-requires-clause-room c =
     let kept : List ℕ = take c.self.inside.kept c.self.inside.line in
     let filled : List ℕ = take c.put_behind-self-inside.result c.put_behind-self-inside.new.line in
     let front : List ℕ = c.split_at.result.0.now in

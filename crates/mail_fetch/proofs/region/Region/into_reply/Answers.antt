@@ -1,6 +1,6 @@
 use Rattle.mail_fetch.proofs.Common.{◌≤◌, ℕ, List, ◌++◌, drop, length, inl, inr, sym, ◌∙◌, ap, subst, arith, RegionValue, HoldsWhole}
 use Rattle.mdbox_base.specs.declared.replies.Reply.TheVariants as reply
-use Rattle.mail_fetch.specs.Held.{IsHeld, octets_held}
+use Rattle.mail_fetch.specs.Held.{HoldsPart, octets_held}
 use Rattle.mail_fetch.proofs.MessageLemmas.{damaged}
 use Rattle.mail_fetch.proofs.PieceLemmas.{octets_left, region_within}
 use Rattle.mail_fetch.proofs.region.Region.into_reply.Goals.{in-Some, in-None}
@@ -8,7 +8,7 @@ use Rattle.mail_fetch.proofs.region.Region.into_reply.Goals as goal
 
 pub message_of-requires-clause-held : goal.message_of-requires-clause-held
 message_of-requires-clause-held c =
-    subst (λ (xs : List ℕ). (x : ℕ) × IsHeld c.self.inside.from xs x c.self.inside.held) (sym c.deref.ensures.value) (octets_left (drop c.self.inside.next c.self.inside.parts.items), c.self.invariant.1)
+    subst (λ (xs : List ℕ). (x : ℕ) × HoldsPart c.self.inside.from xs x c.self.inside.held) (sym c.deref.ensures.value) (octets_left (drop c.self.inside.next c.self.inside.parts.items), c.self.invariant.1)
 
 pub message_of-requires-clause-region : goal.message_of-requires-clause-region
 message_of-requires-clause-region c unknown some =

@@ -1,5 +1,5 @@
 use Rattle.mail_fetch.proofs.Common.{◌≡◌, ◌≤◌, ℕ, drop, refl, length, length-append, List, All, ◌∙◌, sym, ap, subst, arith, sum_by, Part, octets_to_read, pieces_left, IsPart}
-use Rattle.mail_fetch.specs.Held.{IsHeld, octets_held}
+use Rattle.mail_fetch.specs.Held.{HoldsPart, octets_held}
 use Rattle.mail_fetch.specs.Task.{most_pieces}
 use Rattle.mail_fetch.proofs.PartLemmas.{behind_region, few_pieces, total_of_parts}
 use Rattle.mail_fetch.proofs.region.Region.of.Goals as goal
@@ -14,7 +14,7 @@ invariant_of-result c =
     let both = length-append c.in_ok-with_capacity.field-0.items (octets_held c.args.from.instances c.in_ok-nothing_held.field-0) in
     let header = c.in_ok-with_capacity.ensures.exact in (
       record { total_is = total; head_room = omega (arith, header); fits = omega (arith, both, none, none_first, parts, total); each = c.in_ok-parts.ensures.range },
-      subst (λ (xs : List ℕ). IsHeld c.args.from xs (sum_by (λ (part : Part). part.size) c.in_ok-parts.parts.items) c.in_ok-nothing_held.field-0) (sym empty) (c.in_ok-nothing_held.ensures.held (sum_by (λ (part : Part). part.size) c.in_ok-parts.parts.items)),
+      subst (λ (xs : List ℕ). HoldsPart c.args.from xs (sum_by (λ (part : Part). part.size) c.in_ok-parts.parts.items) c.in_ok-nothing_held.field-0) (sym empty) (c.in_ok-nothing_held.ensures.held (sum_by (λ (part : Part). part.size) c.in_ok-parts.parts.items)),
       λ unknown some. (
         refl,
         ap (λ (ps : List Part). sum_by (λ (part : Part). part.size) (drop 1 ps)) c.in_ok-parts.ensures.parts ∙ behind_region c.args.from (let long = c.in_ok-nothing_held.ensures.long unknown some in omega (arith, long)),

@@ -1,5 +1,5 @@
 use Rattle.mail_fetch.proofs.Common.{ℕ, List, common_steps, left_after, octets_to_read, ◌≡◌, ◌<◌, ◌≤◌, ◌+◌, ◌++◌, length, take, drop, refl, sym, ◌∙◌, ap, subst, arith, RegionValue, pieces_left}
-use Rattle.mail_fetch.specs.Held.{IsHeld, IsUnknown, octets_held}
+use Rattle.mail_fetch.specs.Held.{HoldsPart, IsUnknown, octets_held}
 use Rattle.mail_fetch.specs.declared.held.Held.{Held}
 use Rattle.mail_fetch.proofs.HeldLemmas.{held_less}
 use Rattle.mail_fetch.proofs.PartLemmas.{first_size, known_next, part_next, passed, written_over_parts}
@@ -22,7 +22,7 @@ invariant_of-self g c =
 
 pub with_piece-held-requires-clause-held : goal.with_piece-held-requires-clause-held
 with_piece-held-requires-clause-held g c =
-    subst (λ (h : Held). (x : ℕ) × IsHeld c.self.inside.from c.self.inside.head.items x h) (sym c.replace-held.ensures.value) (octets_left (drop c.self.inside.next c.self.inside.parts.items), c.self.invariant.1)
+    subst (λ (h : Held). (x : ℕ) × HoldsPart c.self.inside.from c.self.inside.head.items x h) (sym c.replace-held.ensures.value) (octets_left (drop c.self.inside.next c.self.inside.parts.items), c.self.invariant.1)
 
 pub with_piece-held-requires-clause-room : goal.with_piece-held-requires-clause-room
 with_piece-held-requires-clause-room g c =
@@ -46,10 +46,10 @@ settled_if-requires g c =
     let piece : List ℕ = take count c.deref.result.now in
     let few : length piece ≤ first_size left = piece_few left (drop (c.self.inside.next + 1) parts) c.index-part.result.now c.deref.result.now count at c.in_ok-count.ensures.count.0 in
     let sizes = left_less left (left_after left) piece refl few in
-    let was : IsHeld c.self.inside.from c.self.inside.head.items (octets_left (left_after left) + length piece) c.replace-held.result =
-    subst (IsHeld c.self.inside.from c.self.inside.head.items (octets_left (left_after left) + length piece)) (sym c.replace-held.ensures.value) (held_less c.self.inside.from c.self.inside.head.items (octets_left (left_after left) + length piece) (octets_left left) c.self.inside.held sizes c.self.invariant.1) in
+    let was : HoldsPart c.self.inside.from c.self.inside.head.items (octets_left (left_after left) + length piece) c.replace-held.result =
+    subst (HoldsPart c.self.inside.from c.self.inside.head.items (octets_left (left_after left) + length piece)) (sym c.replace-held.ensures.value) (held_less c.self.inside.from c.self.inside.head.items (octets_left (left_after left) + length piece) (octets_left left) c.self.inside.held sizes c.self.invariant.1) in
     record {
-      held = subst (λ (xs : List ℕ). (x : ℕ) × IsHeld c.self.inside.from xs x c.with_piece-held.result) (sym c.deref-2.ensures.value) (octets_left (left_after left), c.with_piece-held.ensures.held (octets_left (left_after left)) was);
+      held = subst (λ (xs : List ℕ). (x : ℕ) × HoldsPart c.self.inside.from xs x c.with_piece-held.result) (sym c.deref-2.ensures.value) (octets_left (left_after left), c.with_piece-held.ensures.held (octets_left (left_after left)) was);
     }
 
 pub invariant_of-self-2 : goal.invariant_of-self-2
@@ -74,13 +74,13 @@ invariant_of-self-2 g c =
     ap (λ (xs : List ℕ). c.with_piece-held.new.head.items ++ xs) c.settled_if.ensures.octets ∙ c.with_piece-held.ensures.read ∙ ap (λ (h : Held). (c.self.inside.head.items ++ octets_held rows h) ++ piece) was in
     let has_left = room_on from c.self.inside.total c.self.inside.head c.with_piece-held.new.head (c.self.inside.head.items ++ octets_held rows c.self.inside.held) (c.with_piece-held.new.head.items ++ octets_held rows c.settled_if.result) left after piece c.self.invariant.0
     c.with_piece-held.ensures.head_room read few goes in
-    let held_now : IsHeld from c.with_piece-held.new.head.items (octets_left after) c.with_piece-held.result =
-    c.with_piece-held.ensures.held (octets_left after) (subst (IsHeld from c.self.inside.head.items (octets_left after + length piece)) (sym was) (held_less from c.self.inside.head.items (octets_left after + length piece) (octets_left left) c.self.inside.held sizes c.self.invariant.1)) in
+    let held_now : HoldsPart from c.with_piece-held.new.head.items (octets_left after) c.with_piece-held.result =
+    c.with_piece-held.ensures.held (octets_left after) (subst (HoldsPart from c.self.inside.head.items (octets_left after + length piece)) (sym was) (held_less from c.self.inside.head.items (octets_left after + length piece) (octets_left left) c.self.inside.held sizes c.self.invariant.1)) in
     let behind : drop (c.self.inside.next + 1) c.pass_piece-self-inside.new.parts ≡ drop (c.self.inside.next + 1) parts = c.pass_piece-self-inside.ensures.behind ∙ ap (drop (c.self.inside.next + 1)) c.deref_mut-2.ensures.value in
     let known : (unknown : IsUnknown c.with_piece-held.result) → IsUnknown c.self.inside.held = λ unknown. subst IsUnknown was (c.with_piece-held.ensures.known unknown) in
     let there : c.deref-2.result.now ≡ c.with_piece-held.new.head.items = c.deref-2.ensures.value in (
       has_left,
-      subst (λ (xs : List ℕ). IsHeld from xs (octets_left after) c.settled_if.result) there (c.settled_if.ensures.held (octets_left after) (subst (λ (xs : List ℕ). IsHeld from xs (octets_left after) c.with_piece-held.result) (sym there) held_now)
+      subst (λ (xs : List ℕ). HoldsPart from xs (octets_left after) c.settled_if.result) there (c.settled_if.ensures.held (octets_left after) (subst (λ (xs : List ℕ). HoldsPart from xs (octets_left after) c.with_piece-held.result) (sym there) held_now)
           (λ is_read unknown some.
           let i = c.self.invariant.2 (known unknown) some in
           let past = first_passed parts c.pass_piece-self-inside.new.parts _ c.self.inside.next c.pass_piece-self-inside.result i.0 now c.pass_piece-self-inside.ensures.next behind in
