@@ -286,11 +286,7 @@ fn make_map_log<D: Disk>(
 }
 
 /// Adds an entry to the root log that names a map log of this generation.
-fn append_root<D: Disk>(
-    log: &mut GateLog,
-    disk: &mut D,
-    generation: u32,
-) -> Result<(), DiskFault>
+fn append_root<D: Disk>(log: &mut GateLog, disk: &mut D, generation: u32) -> Result<(), DiskFault>
     requires read { (entries : List (List ℕ)) × Reads log.old entries (D.history disk.old) }
     requires room { 10 ≤ log.old.room }
     ensures any_moment { AddsText log.old (root_text (root_entry.M generation)) (D.history disk.old) (D.history disk.new) }

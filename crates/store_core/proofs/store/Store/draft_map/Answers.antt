@@ -34,8 +34,7 @@ invariant_of-self g c =
     let name = file.Map (n + 1) in
     let other = next_map _ n (n + 1) (ap (λ v. v.map_log.name) c.self.view_is ∙ c.map_generation-generation.ensures) refl in
     let free = free_map _ _ (n + 1) c.self.invariant.1 other in
-    let others = named_but name _ _ c.in-Ok.ensures.others in
-    (
+    let others = named_but name _ _ c.in-Ok.ensures.others in (
       c.self.invariant.0,
       store_free name _ _ _ c.make_map_log.new.disk c.self.inside.made.items c.self.invariant.1 runs free (besides name _ _ others),
       room_same _ _ refl refl c.self.invariant.2,
