@@ -11,7 +11,7 @@ use Rattle.mdbox_base.specs.declared.entries.BoxEntry.TheVariants as entry
 use Rattle.model_appends.proofs.AppendOpenLemmas.{box_more_good, rows_have}
 use Rattle.model_meaning.proofs.BoxLemmas.{box_more}
 use Rattle.model_store.specs.Opening.{AreBoxEntries}
-use Rattle.store_core.specs.Drafts.{AllFitBehind, AreLaidOut}
+use Rattle.store_core.specs.Drafts.{AllFitBehind, AreEntryTexts}
 use Rattle.store_core.specs.MapDrafts.{AllMapFitBehind, HasRoomForAll, rooms_of}
 use Rattle.store_core.proofs.MapAppendLemmas.{some_octets}
 use Rattle.map_index.specs.Value.{IsNoLessRoom, MapIndexValue, larger_room, room_for, room_left}
@@ -46,10 +46,10 @@ some_text (entry.F u f) = omega arith
 some_text (entry.K u w) = omega arith
 some_text (entry.R u) = omega arith
 
-texts_more : (texts : List (List ℕ)) (text octets lengths octets_now lengths_now : List ℕ) → 1 ≤ length text → AreLaidOut texts octets lengths → octets_now ≡ octets ++ text → lengths_now ≡ lengths ++ length text ∷ [] → AreLaidOut (texts ++ text ∷ []) octets_now lengths_now
+texts_more : (texts : List (List ℕ)) (text octets lengths octets_now lengths_now : List ℕ) → 1 ≤ length text → AreEntryTexts texts octets lengths → octets_now ≡ octets ++ text → lengths_now ≡ lengths ++ length text ∷ [] → AreEntryTexts (texts ++ text ∷ []) octets_now lengths_now
 texts_more texts text octets lengths octets_now lengths_now one t o l =
-    subst (λ (os : List ℕ). AreLaidOut (texts ++ text ∷ []) os lengths_now) (sym o)
-    (subst (λ (ls : List ℕ). AreLaidOut (texts ++ text ∷ []) (octets ++ text) ls) (sym l)
+    subst (λ (os : List ℕ). AreEntryTexts (texts ++ text ∷ []) os lengths_now) (sym o)
+    (subst (λ (ls : List ℕ). AreEntryTexts (texts ++ text ∷ []) (octets ++ text) ls) (sym l)
     (record {
       cut = cut-more lengths octets (length text) text t.whole refl ∙ ap (λ (ts : List (List ℕ)). ts ++ text ∷ []) t.cut;
       whole = sum-more lengths octets text t.whole;
@@ -58,19 +58,19 @@ texts_more texts text octets lengths octets_now lengths_now one t o l =
     }))
 
 -- one of the entries more
-texts_next : {E : Type 0} → (text : E → List ℕ) (entries : List E) (i : ℕ) (e : E) (octets lengths octets_now lengths_now : List ℕ) → 1 ≤ length (text e) → i < length entries → e ≡ get_or entries i e → AreLaidOut (map text (take i entries)) octets lengths → octets_now ≡ octets ++ text e
-    → lengths_now ≡ lengths ++ length (text e) ∷ [] → AreLaidOut (map text (take (i + 1) entries)) octets_now lengths_now
+texts_next : {E : Type 0} → (text : E → List ℕ) (entries : List E) (i : ℕ) (e : E) (octets lengths octets_now lengths_now : List ℕ) → 1 ≤ length (text e) → i < length entries → e ≡ get_or entries i e → AreEntryTexts (map text (take i entries)) octets lengths → octets_now ≡ octets ++ text e
+    → lengths_now ≡ lengths ++ length (text e) ∷ [] → AreEntryTexts (map text (take (i + 1) entries)) octets_now lengths_now
 texts_next text entries i e octets lengths octets_now lengths_now one below is t o l =
     let more : take (i + 1) entries ≡ take i entries ++ e ∷ [] = take_more entries i e below ∙ ap (λ (x : _). take i entries ++ x ∷ []) (sym is) in
-    subst (λ (ts : List (List ℕ)). AreLaidOut ts octets_now lengths_now) (sym (ap (map text) more ∙ map-append text (take i entries) (e ∷ [])))
+    subst (λ (ts : List (List ℕ)). AreEntryTexts ts octets_now lengths_now) (sym (ap (map text) more ∙ map-append text (take i entries) (e ∷ [])))
     (texts_more (map text (take i entries)) (text e) octets lengths octets_now lengths_now one t o l)
 
-pub texts_step : (entries : List BoxEntry) (i : ℕ) (e : BoxEntry) (octets lengths octets_now lengths_now : List ℕ) → i < length entries → e ≡ get_or entries i e → AreLaidOut (map box_text (take i entries)) octets lengths → octets_now ≡ octets ++ box_text e
-    → lengths_now ≡ lengths ++ length (box_text e) ∷ [] → AreLaidOut (map box_text (take (i + 1) entries)) octets_now lengths_now
+pub texts_step : (entries : List BoxEntry) (i : ℕ) (e : BoxEntry) (octets lengths octets_now lengths_now : List ℕ) → i < length entries → e ≡ get_or entries i e → AreEntryTexts (map box_text (take i entries)) octets lengths → octets_now ≡ octets ++ box_text e
+    → lengths_now ≡ lengths ++ length (box_text e) ∷ [] → AreEntryTexts (map box_text (take (i + 1) entries)) octets_now lengths_now
 texts_step entries i e octets lengths octets_now lengths_now below is t o l = texts_next box_text entries i e octets lengths octets_now lengths_now (some_text e) below is t o l
 
-pub map_texts_step : (entries : List MapEntry) (i : ℕ) (e : MapEntry) (octets lengths octets_now lengths_now : List ℕ) → i < length entries → e ≡ get_or entries i e → AreLaidOut (map map_text (take i entries)) octets lengths → octets_now ≡ octets ++ map_text e
-    → lengths_now ≡ lengths ++ length (map_text e) ∷ [] → AreLaidOut (map map_text (take (i + 1) entries)) octets_now lengths_now
+pub map_texts_step : (entries : List MapEntry) (i : ℕ) (e : MapEntry) (octets lengths octets_now lengths_now : List ℕ) → i < length entries → e ≡ get_or entries i e → AreEntryTexts (map map_text (take i entries)) octets lengths → octets_now ≡ octets ++ map_text e
+    → lengths_now ≡ lengths ++ length (map_text e) ∷ [] → AreEntryTexts (map map_text (take (i + 1) entries)) octets_now lengths_now
 map_texts_step entries i e octets lengths octets_now lengths_now below is t o l = texts_next map_text entries i e octets lengths octets_now lengths_now (some_octets e) below is t o l
 
 -- ---- what a draft means with entries more

@@ -7,7 +7,7 @@ ghost use Rattle.gate_log.specs.Log.{Reads, Drafts};
 ghost use Rattle.model_logs.specs.Entries.{box_text, BoxInRange};
 ghost use Rattle.model_meaning.specs.BoxMeaning.{box_applied};
 ghost use Rattle.store_core.specs.Append.{IsSameBox};
-ghost use Rattle.store_core.specs.Drafts.{AllFitBehind, AreLaidOut};
+ghost use Rattle.store_core.specs.Drafts.{AllFitBehind, AreEntryTexts};
 ghost use Rattle.store_core.specs.declared.error.StepError.TheVariants as step_error;
 
 use crate::error::StepError;
@@ -98,7 +98,7 @@ fn take_extension(
     requires few { length entries.now ≤ 16 }
     requires range { AllByRecursion BoxInRange entries.now }
     ensures entries { IfOk result (λ extension. extension.entries.items ≡ entries.now) }
-    ensures texts { IfOk result (λ extension. AreLaidOut (map box_text entries.now) extension.texts.octets extension.texts.lengths.items) }
+    ensures texts { IfOk result (λ extension. AreEntryTexts (map box_text entries.now) extension.texts.octets extension.texts.lengths.items) }
     ensures log { IfOk result (λ extension. length extension.texts.octets + 5 * length extension.texts.lengths.items ≤ open_box.new.log.room) }
     ensures index { OnOk result (length entries.now ≤ open_box.new.index.room) }
     ensures no_less { open_box.old.log.room ≤ open_box.new.log.room }
@@ -130,7 +130,7 @@ fn copies_of(alloc: Global, entries: &[BoxEntry]) -> Result<Vec<BoxEntry>, NoMem
 /// The texts of entries.
 fn texts_of(alloc: Global, entries: &[BoxEntry]) -> Result<EntryTexts, NoMemory>
     requires { AllByRecursion BoxInRange entries.now }
-    ensures { IfOk result (λ texts. AreLaidOut (map box_text entries.now) texts.octets texts.lengths.items) }
+    ensures { IfOk result (λ texts. AreEntryTexts (map box_text entries.now) texts.octets texts.lengths.items) }
 {
     let mut texts = EntryTexts {
         octets: Octets::empty(alloc),

@@ -7,7 +7,7 @@ ghost use Rattle.gate_log.specs.Log.{Reads, Drafts};
 ghost use Rattle.gate_log.specs.State.{IsSameLog};
 ghost use Rattle.model_logs.specs.Entries.{map_text, MapInRange};
 ghost use Rattle.model_meaning.specs.MapMeaning.{map_applied};
-ghost use Rattle.store_core.specs.Drafts.{AreLaidOut};
+ghost use Rattle.store_core.specs.Drafts.{AreEntryTexts};
 ghost use Rattle.store_core.specs.MapDrafts.{AllMapFitBehind, HasRoomForAll, rooms_of};
 ghost use Rattle.store_core.specs.declared.error.StepError.TheVariants as step_error;
 
@@ -93,7 +93,7 @@ fn take_map_extension(
 ) -> Result<MapExtension, NoMemory>
     requires { AllByRecursion MapInRange entries.now }
     ensures entries { IfOk result (λ extension. extension.entries.items ≡ entries.now) }
-    ensures texts { IfOk result (λ extension. AreLaidOut (map map_text entries.now) extension.texts.octets extension.texts.lengths.items) }
+    ensures texts { IfOk result (λ extension. AreEntryTexts (map map_text entries.now) extension.texts.octets extension.texts.lengths.items) }
     ensures log { IfOk result (λ extension. length extension.texts.octets + 5 * length extension.texts.lengths.items ≤ log.new.room) }
     ensures index { OnOk result (HasRoomForAll entries.now index.new.room) }
     ensures no_less { log.old.room ≤ log.new.room }
@@ -234,7 +234,7 @@ fn name_copy(alloc: Global, name: &Name) -> Result<Name, NoMemory>
 /// The texts of entries.
 fn map_texts_of(alloc: Global, entries: &[MapEntry]) -> Result<EntryTexts, NoMemory>
     requires { AllByRecursion MapInRange entries.now }
-    ensures { IfOk result (λ texts. AreLaidOut (map map_text entries.now) texts.octets texts.lengths.items) }
+    ensures { IfOk result (λ texts. AreEntryTexts (map map_text entries.now) texts.octets texts.lengths.items) }
 {
     let mut texts = EntryTexts {
         octets: Octets::empty(alloc),
