@@ -1,6 +1,6 @@
 -- Drafts of mailbox logs: the texts of entries, and what a draft means with entries more.
-use Rattle.store_core.proofs.Common.{◌≡◌, ◌≤◌, ◌<◌, ◌+◌, ◌-◌, ℕ, List, [], ◌∷◌, ◌++◌, length, map, take, drop, All, Option, refl, sym, ◌∙◌, ap, subst, arith, append-nil, get_or, length-append, map-append, All-nil, All-cons, All-append, All-head, All-tail, History, IfTold, if_told-map, FileName}
-use Rattle.store_core.proofs.Common.{BoxEntry, MapEntry, map_text, map_more, map_meaning, map_applied, MapInRange, sum_by, box_text, BoxInRange, BoxMeaning, box_applied, box_meaning, row_made, HasItsRecord, MapMeaning, LogState, IsSameLog, Reads, IsLogRead, StoreValue, IsStore, head_of}
+use Rattle.store_core.proofs.Common.{◌≡◌, ◌≤◌, ◌<◌, ◌+◌, ◌-◌, ℕ, List, [], ◌∷◌, ◌++◌, length, map, take, drop, All, Option, refl, sym, ◌∙◌, ap, subst, arith, append-nil, get_or, length-append, map-append, All-nil, All-cons, All-append, All-head, All-tail, History, if_told-map}
+use Rattle.store_core.proofs.Common.{BoxEntry, MapEntry, map_text, map_more, map_meaning, map_applied, MapInRange, box_text, BoxInRange, BoxMeaning, box_applied, box_meaning, row_made, HasItsRecord, MapMeaning, LogState, Reads, IsLogRead}
 use Rattle.std.proofs.Common.{fold, sum, append_assoc, length-drop}
 use Rattle.std.proofs.Math.Seq.{take-length}
 use Rattle.std.proofs.lemmas.List.{take-append-le, drop-append-le, take_more}

@@ -1,5 +1,5 @@
 -- A store that makes or extends a draft of the map log, by what the calls have at hand.
-use Rattle.store_core.proofs.Common.{◌≡◌, ◌≢◌, ◌<◌, ◌≤◌, ◌+◌, ℕ, false, List, [], ◌++◌, map, Option, refl, sym, ◌∙◌, ap, subst, arith, map-append, History, MapEntry, map_text, MapInRange, LogState, Holds, MapMeaning, map_meaning, map_applied, head_of, IsStore, StoreValue}
+use Rattle.store_core.proofs.Common.{◌≡◌, ◌≢◌, ◌<◌, ◌+◌, ℕ, List, [], ◌++◌, map, Option, sym, ◌∙◌, ap, subst, arith, map-append, History, MapEntry, map_text, MapInRange, LogState, Holds, MapMeaning, map_meaning, map_applied, head_of, IsStore, StoreValue}
 use Rattle.std.proofs.Common.{fold, Result, Ok, OnOk}
 use Rattle.std.specs.List.{AllByRecursion}
 use Rattle.disk_model.specs.declared.name.FileName.TheVariants as file

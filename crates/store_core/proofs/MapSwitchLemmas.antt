@@ -1,7 +1,7 @@
 -- A store with one entry more in the root log, by which a draft is the map log.
-use Rattle.store_core.proofs.Common.{◌⊎◌, inl, inr, ◌≡◌, ◌≢◌, ◌<◌, ◌≤◌, ℕ, false, List, [], ◌∷◌, ◌++◌, map, Option, Some, None, All, refl, sym, ◌∙◌, ap, subst, arith, true, Files, DiskState, History, IfTold, Between, IsImage, EachImage, OthersStay, SameButFor, MayLeave, reading, FileName, if_told-map, between-on, each_image-map}
-use Rattle.store_core.proofs.Common.{LogState, IsSameLog, IsLogHeld, IsLogRead, IsLogWithOrWithout, Reads, Holds, BoxEntry, MapEntry, HasOneMore, LeavesAsRead, LeftBut, Lists, map_text, IsLogFile, LogHead, MapBox, MapMeaning, MapRecord, map_meaning, map_same, root_same, AreGoodLogs, Opens, Safe, files_of, IsSettled, IsSettledFor}
-use Rattle.store_core.proofs.Common.{Leaves, HasRoot, AddsText, KeepsStored, KeepsMadeLogs, IsRunning, IsStore, StoreValue, head_of, kept_as, map_stored, count_itself, same_log, more_log, safe_without, StoresMessage, HasEntryRoom, OpenBox, entry_room}
+use Rattle.store_core.proofs.Common.{◌⊎◌, inl, inr, ◌≡◌, ◌≢◌, ◌≤◌, ℕ, false, List, [], ◌∷◌, ◌++◌, map, Option, Some, None, All, refl, sym, ◌∙◌, ap, subst, arith, true, Files, DiskState, History, IfTold, OthersStay, SameButFor, MayLeave, reading, FileName, if_told-map, each_image-map}
+use Rattle.store_core.proofs.Common.{LogState, IsSameLog, IsLogHeld, IsLogRead, IsLogWithOrWithout, Reads, Holds, MapEntry, HasOneMore, LeavesAsRead, LeftBut, Lists, map_text, IsLogFile, LogHead, map_meaning, map_same, Opens, Safe, files_of, IsSettled, IsSettledFor}
+use Rattle.store_core.proofs.Common.{Leaves, HasRoot, AddsText, IsRunning, IsStore, StoreValue, head_of, same_log, more_log, safe_without, HasEntryRoom, OpenBox, entry_room}
 use Rattle.disk_model.specs.declared.name.FileName.TheVariants as file
 use Rattle.mdbox_base.specs.declared.entries.RootEntry.TheVariants as root
 use Rattle.model_appends.proofs.HeldLogLemmas.{holds_root}

@@ -1,5 +1,5 @@
 -- Disks on which one log was made, changed or removed that the store doesn't need: nothing that a store reads has changed.
-use Rattle.store_core.proofs.Common.{◌⊎◌, option_map, inl, inr, ◌≡◌, ◌≢◌, ℕ, true, false, List, [], ◌∷◌, map, length, Option, Some, None, All, refl, sym, ◌∙◌, ap, subst, All-head, All-tail, All-weaker, true≢false, FileState, DiskState, History, IfTold, Between}
+use Rattle.store_core.proofs.Common.{◌⊎◌, option_map, inl, inr, ◌≡◌, ◌≢◌, ℕ, false, List, [], ◌∷◌, map, length, Option, Some, None, All, refl, sym, ◌∙◌, ap, subst, All-head, All-tail, All-weaker, true≢false, FileState, DiskState, History, IfTold, Between}
 use Rattle.store_core.proofs.Common.{IsThere, MayLeave, EachImage, OthersStay, SameButFor, removed, no_file, reading, named, FileName, between-on, between-map, reads_there, each_image-map, named-narrows, LogState, IsLogRead, Reads, NamedButFor, BoxEntry, MapEntry}
 use Rattle.store_core.proofs.Common.{Lists, box_text, map_text, MapRecord, MapBox, MapMeaning, map_meaning, Opens, Safe, files_of, IsSettled, IsSettledFor, Leaves, HasRoot, StoresMessage, IsSameRegion, HasSameRegion}
 use Rattle.store_core.proofs.Common.{kept_along, map_same, root_same, log_as, MailFile, end_in, OthersAreNamed, KeepsStored, StayThere, IsUnnamed, AreBoxLogs, ReadBoxLogs, IsRunning, IsStore, StoreValue}

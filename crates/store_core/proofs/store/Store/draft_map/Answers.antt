@@ -1,4 +1,4 @@
-use Rattle.store_core.proofs.Common.{◌≡◌, ◌+◌, refl, sym, ◌∙◌, ap, subst, Lists, IsSettledFor, Leaves, KeepsStored, MailIsKept, kept_begins}
+use Rattle.store_core.proofs.Common.{◌≡◌, ◌+◌, refl, ◌∙◌, ap, subst, Lists, IsSettledFor, Leaves, KeepsStored, MailIsKept, kept_begins}
 use Rattle.disk_model.specs.declared.name.FileName.TheVariants as file
 use Rattle.store_core.proofs.BoxCrashLemmas.{leaves_none}
 use Rattle.store_core.proofs.KnownInstanceLemmas.{instances_named, instances_on, map_is_none}

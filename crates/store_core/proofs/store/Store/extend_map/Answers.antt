@@ -1,4 +1,4 @@
-use Rattle.store_core.proofs.Common.{◌≡◌, List, map, refl, sym, ◌∙◌, ap, subst, All, EachImage, OthersStay, SameButFor, map_text, MapEntry, MapInRange, Lists, IsSettledFor, Leaves, KeepsStored, MailIsKept, kept_begins}
+use Rattle.store_core.proofs.Common.{◌≡◌, List, map, refl, sym, ◌∙◌, ap, subst, EachImage, OthersStay, SameButFor, map_text, MapEntry, MapInRange, Lists, IsSettledFor, Leaves, KeepsStored, MailIsKept, kept_begins}
 use Rattle.std.proofs.Common.{Err, OnOk}
 use Rattle.std.specs.List.{AllByRecursion}
 use Rattle.disk_model.specs.declared.name.FileName.TheVariants as file

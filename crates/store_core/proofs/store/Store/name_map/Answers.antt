@@ -1,4 +1,4 @@
-use Rattle.store_core.proofs.Common.{sym, refl, ◌∙◌, ap, subst, LogState, SameButFor, Lists, IsSettledFor, Leaves, KeepsStored, MailIsKept}
+use Rattle.store_core.proofs.Common.{refl, ◌∙◌, ap, subst, LogState, SameButFor, Lists, IsSettledFor, Leaves, KeepsStored, MailIsKept}
 use Rattle.disk_model.specs.declared.name.FileName.TheVariants as file
 use Rattle.store_core.proofs.KnownInstanceLemmas.{instances_beside, instances_on, root_is_none}
 use Rattle.store_core.proofs.MadeLogLemmas.{made_beside}

@@ -1,4 +1,4 @@
-use Rattle.store_core.proofs.Common.{◌≡◌, sym, ◌∙◌, ap, LogState, StoreValue}
+use Rattle.store_core.proofs.Common.{sym, ◌∙◌, ap, LogState, StoreValue}
 use Rattle.disk_model.specs.declared.name.FileName.TheVariants as file
 use Rattle.model_kept.proofs.KeptLemmas.{kept_then}
 use Rattle.store_core.proofs.DraftSwitchLemmas.{gone_as, leaves_first, others_as, stored_on}
