@@ -83,6 +83,13 @@ impl GateLog {
         self.count
     }
 
+    /// The generation in its head.
+    pub fn generation(&self) -> u32
+        ensures { result ≡ self.now.head.generation }
+    {
+        self.head.generation
+    }
+
     /// How many octets of an entry, and 5 for each entry, the log can add without memory.
     pub fn room(&self) -> usize
         ensures { result ≡ self.now.room }

@@ -3,7 +3,7 @@
 
 pub use index::MapIndex;
 pub use map_rows::MapRow;
-pub use room::MapRoom;
+pub use room::{MapRoom, NO_ROOM, room_for};
 pub use rows::BoxAt;
 
 mod changes;

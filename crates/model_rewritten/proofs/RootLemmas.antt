@@ -42,7 +42,7 @@ root_stored : (a b : Files) → SameBut file.Root a b → SameStored a b
 root_stored a b s = record { mails = λ n. s (file.Mail n) (λ e. absurd (cc e)); instances = λ hash id. s (file.Inst hash id) (λ e. absurd (cc e)) }
 
 -- the root log with one entry more
-root_more : (a b : Files) (store : List ℕ) (g h : ℕ) → h < 2 ^ 32 → HasOneMore (root_text (root.M h)) (a file.Root) (b file.Root) → HasRoot a store g → HasRoot b store h
+pub root_more : (a b : Files) (store : List ℕ) (g h : ℕ) → h < 2 ^ 32 → HasOneMore (root_text (root.M h)) (a file.Root) (b file.Root) → HasRoot a store g → HasRoot b store h
 root_more a b store g h fits more r = record {
   before = r.before ++ root.M g ∷ [];
   log = log_more root_text a b file.Root (head_of store kind.Root 0 0) (r.before ++ root.M g ∷ []) (root.M h) more r.log;
@@ -164,7 +164,7 @@ good_other store entries others logs good entries_good means = record {
   counts = subst (λ (n : MapMeaning). All (IsCounted logs) n.records) (sym means) good.counts;
 }
 
-all_boxes : (boxes : List MapBox) → All (λ (box : MapBox). file.Box box.number box.generation ≢ file.Root) boxes
+pub all_boxes : (boxes : List MapBox) → All (λ (box : MapBox). file.Box box.number box.generation ≢ file.Root) boxes
 all_boxes [] = All-nil (λ (box : MapBox). file.Box box.number box.generation ≢ file.Root)
 all_boxes (box ∷ boxes) = All-cons (λ (b : MapBox). file.Box b.number b.generation ≢ file.Root) box boxes (λ e. absurd (cc e)) (all_boxes boxes)
 

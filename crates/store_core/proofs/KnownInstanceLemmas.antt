@@ -56,6 +56,9 @@ mail_is_none number = λ h i e. absurd (let w : file.Inst h i ≡ file.Mail numb
 pub map_is_none : (name : FileName) (generation : ℕ) → name ≡ file.Map generation → IsNoInstance name
 map_is_none name generation is = λ h i e. absurd (let w : file.Inst h i ≡ file.Map generation = e ∙ is in cc w)
 
+pub root_is_none : IsNoInstance file.Root
+root_is_none = λ h i e. absurd (let w : file.Inst h i ≡ file.Root = e in cc w)
+
 pub box_is_none : (name : FileName) (number generation : ℕ) → name ≡ file.Box number generation → IsNoInstance name
 box_is_none name number generation is = λ h i e. absurd (let w : file.Inst h i ≡ file.Box number generation = e ∙ is in cc w)
 

@@ -56,3 +56,5 @@ pub mod DraftCallLemmas
 pub mod ReplacedLogLemmas
 pub mod PutInForceLemmas
 pub mod DraftSwitchLemmas
+pub mod MapDraftLemmas
+pub mod MapSwitchLemmas

@@ -21,6 +21,9 @@ use Rattle.store_core.proofs.PlacedInstanceLemmas.{all_parts, next_is_new}
 pub map_log_kept : (m : MapMeaning) (name : FileName) (generation : ℕ) (old new : Option History) → name ≡ file.Map generation → EachImage (λ _ image. OthersStay name old image) old new → MailIsKept m old new
 map_log_kept m name generation old new is each = kept_beside m name old new (subst (IsUnknownTo m) (sym is) (λ f octets. tt)) each
 
+pub root_log_kept : (m : MapMeaning) (name : FileName) (old new : Option History) → name ≡ file.Root → EachImage (λ _ image. OthersStay name old image) old new → MailIsKept m old new
+root_log_kept m name old new is each = kept_beside m name old new (subst (IsUnknownTo m) (sym is) (λ f octets. tt)) each
+
 pub box_log_kept : (m : MapMeaning) (name : FileName) (number generation : ℕ) (old new : Option History) → name ≡ file.Box number generation → EachImage (λ _ image. OthersStay name old image) old new → MailIsKept m old new
 box_log_kept m name number generation old new is each = kept_beside m name old new (subst (IsUnknownTo m) (sym is) (λ f octets. tt)) each
 

@@ -93,9 +93,9 @@ GivesLists draft store history lists later =
 abbrev pub IsOutOfForce : ℕ → ℕ → MapMeaning → Type 0
 IsOutOfForce number generation m = All (λ box. box.number ≡ number → box.generation ≢ generation) m.boxes
 
--- These octets are the texts of the entries, one after another, and these are their lengths.
-pub record AreEntryTexts (entries : List BoxEntry) (octets lengths : List ℕ) : Type 0 where
-  pub cut : cut_by lengths octets ≡ map box_text entries
+-- These octets are the texts of entries, one after another, and these are their lengths.
+pub record AreEntryTexts (texts : List (List ℕ)) (octets lengths : List ℕ) : Type 0 where
+  pub cut : cut_by lengths octets ≡ texts
   pub whole : sum lengths ≡ length octets
   pub some : All (λ size. 1 ≤ size) lengths
-  pub many : length lengths ≡ length entries
+  pub many : length lengths ≡ length texts

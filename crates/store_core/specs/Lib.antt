@@ -8,6 +8,7 @@ pub mod Keeping
 pub mod Knows
 pub mod MadeLogs
 pub mod MapAppend
+pub mod MapDrafts
 pub mod PlaceStops
 pub mod Removing
 pub mod Running

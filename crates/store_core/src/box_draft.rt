@@ -45,9 +45,9 @@ impl Model for BoxDraft {
 
 /// Entries as a log takes them: their texts one after another, and the length of each.
 #[derive(Drop)]
-struct EntryTexts {
-    octets: Octets,
-    lengths: Vec<u32>,
+pub(crate) struct EntryTexts {
+    pub(crate) octets: Octets,
+    pub(crate) lengths: Vec<u32>,
 }
 
 /// What is needed of memory to add entries: copies of them, for the index, and their texts.
@@ -98,7 +98,7 @@ fn take_extension(
     requires few { length entries.now ≤ 16 }
     requires range { AllByRecursion BoxInRange entries.now }
     ensures entries { IfOk result (λ extension. extension.entries.items ≡ entries.now) }
-    ensures texts { IfOk result (λ extension. AreEntryTexts entries.now extension.texts.octets extension.texts.lengths.items) }
+    ensures texts { IfOk result (λ extension. AreEntryTexts (map box_text entries.now) extension.texts.octets extension.texts.lengths.items) }
     ensures log { IfOk result (λ extension. length extension.texts.octets + 5 * length extension.texts.lengths.items ≤ open_box.new.log.room) }
     ensures index { OnOk result (length entries.now ≤ open_box.new.index.room) }
     ensures no_less { open_box.old.log.room ≤ open_box.new.log.room }
@@ -107,7 +107,7 @@ fn take_extension(
 {
     let copies = copies_of(alloc, entries)?;
     let texts = texts_of(alloc, entries)?;
-    let room = room_for(alloc, &texts)?;
+    let room = room_for_texts(alloc, &texts)?;
     open_box.index.reserve_rows(entries.len())?;
     open_box.log.take_room(room);
     Ok(Extension {
@@ -130,7 +130,7 @@ fn copies_of(alloc: Global, entries: &[BoxEntry]) -> Result<Vec<BoxEntry>, NoMem
 /// The texts of entries.
 fn texts_of(alloc: Global, entries: &[BoxEntry]) -> Result<EntryTexts, NoMemory>
     requires { AllByRecursion BoxInRange entries.now }
-    ensures { IfOk result (λ texts. AreEntryTexts entries.now texts.octets texts.lengths.items) }
+    ensures { IfOk result (λ texts. AreEntryTexts (map box_text entries.now) texts.octets texts.lengths.items) }
 {
     let mut texts = EntryTexts {
         octets: Octets::empty(alloc),
@@ -154,7 +154,7 @@ fn push_text(alloc: Global, texts: &mut EntryTexts, entry: &BoxEntry) -> Result<
 }
 
 /// A length in octets as a record tells it. No record has 4,294,967,296 octets or more.
-fn in_record(octets: usize) -> Result<u32, NoMemory>
+pub(crate) fn in_record(octets: usize) -> Result<u32, NoMemory>
     ensures { IfOk result (λ length. length ≡ octets) }
 {
     match u32::try_from(octets) {
@@ -164,7 +164,7 @@ fn in_record(octets: usize) -> Result<u32, NoMemory>
 }
 
 /// Room in a log for these texts.
-fn room_for(alloc: Global, texts: &EntryTexts) -> Result<LogRoom, NoMemory>
+pub(crate) fn room_for_texts(alloc: Global, texts: &EntryTexts) -> Result<LogRoom, NoMemory>
     ensures { IfOk result (λ room. length texts.now.octets + 5 * length texts.now.lengths.items ≤ room) }
 {
     let beside = texts.lengths.len().saturating_mul(BESIDE);

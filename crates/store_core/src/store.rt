@@ -46,6 +46,7 @@ mod deleting;
 mod drafts;
 mod files;
 mod instances;
+mod map_drafts;
 mod renaming;
 mod switching;
 mod using;

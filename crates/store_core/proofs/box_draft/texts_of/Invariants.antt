@@ -1,7 +1,7 @@
-use Rattle.store_core.proofs.Common.{take}
+use Rattle.store_core.proofs.Common.{map, take, box_text}
 use Rattle.store_core.specs.Drafts.{AreEntryTexts}
 use Rattle.store_core.proofs.box_draft.texts_of.Given as goal
 
 -- the texts of the entries so far
 abbrev pub invariant-loop-entry : goal.invariant-loop-entry
-invariant-loop-entry l = AreEntryTexts (take l.entry-index l.entries) l.texts.octets l.texts.lengths.items
+invariant-loop-entry l = AreEntryTexts (map box_text (take l.entry-index l.entries)) l.texts.octets l.texts.lengths.items
