@@ -26,7 +26,7 @@ abbrev pub Lists : Type 0
 Lists = List Mailbox
 
 -- The numbers of a message are in their ranges: UIDs from 1 to 4,294,967,294, flags as bits below 32, 64 bits of time,
--- a GUID of 16 octets, and at most 67,108,864 octets; and its keywords are some.
+-- a GUID of 16 octets, and at most 67,108,864 octets; and its keywords are those of a message.
 pub record IsMessageInRange (message : ListedMessage) : Type 0 where
   pub uid_some : 1 ≤ message.uid
   pub uid_fits : message.uid ≤ 4294967294

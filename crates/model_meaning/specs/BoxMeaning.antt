@@ -34,7 +34,7 @@ abbrev pub row_rules : Rules BoxEntry LogRow
 row_rules = record { made = row_made; removes = row_removed; changed = row_changed }
 
 -- The messages: the Added ones that no later Removed names, in order, each with the flags of the last Flagged and the
--- keywords of the last Keywords behind it that name it, else its own.
+-- keywords of the last Worded behind it that name it, else its own.
 abbrev pub rows_after : List BoxEntry → List LogRow
 rows_after entries = rows_of row_rules entries
 

@@ -5,6 +5,7 @@ ghost use Rattle.disk_model.specs.Disk.{EachImage, OthersStay, SameButFor, Grows
 ghost use Rattle.disk_model.specs.FaultCounts.{NoFault, ChangeFaultCounted};
 ghost use Rattle.gate_log.specs.Log.{Reads, Drafts};
 ghost use Rattle.gate_log.specs.State.{IsSameLog};
+ghost use Rattle.map_index.specs.Needs.{TakesMemory};
 ghost use Rattle.model_logs.specs.Entries.{map_text, MapInRange};
 ghost use Rattle.model_meaning.specs.MapMeaning.{map_applied};
 ghost use Rattle.store_core.specs.Drafts.{AreEntryTexts};
@@ -16,8 +17,8 @@ use crate::error::StepError;
 use disk_model::Disk;
 use gate_log::{GateLog, LogRoom};
 use log_records::{map_entry_size, push_map_entry};
-use map_index::{MapIndex, MapRoom, NO_ROOM, room_for};
-use mdbox_base::{MapEntry, Name, NoMemory, Octets, Seq, name_of};
+use map_index::{MapIndex, MapRoom, NO_ROOM, copied, room_for};
+use mdbox_base::{MapEntry, NoMemory, Octets, Seq};
 use std::alloc::Global;
 use std::marker::Model;
 
@@ -154,42 +155,28 @@ fn map_copies_of(alloc: Global, entries: &[MapEntry]) -> Result<Vec<MapEntry>, N
 fn copy_of(alloc: Global, entry: &MapEntry) -> Result<MapEntry, NoMemory>
     ensures { IfOk result (λ copy. copy ≡ entry.now) }
 {
+    match copied(alloc, entry)? {
+        Some(copy) => Ok(copy),
+        None => copy_of_other(alloc, entry),
+    }
+}
+
+/// A copy of an entry for which an index takes no memory.
+fn copy_of_other(alloc: Global, entry: &MapEntry) -> Result<MapEntry, NoMemory>
+    requires { TakesMemory entry.now → ⊥ }
+    ensures { IfOk result (λ copy. copy ≡ entry.now) }
+{
     Ok(match entry {
+        MapEntry::S { .. } | MapEntry::B { .. } | MapEntry::E { .. } | MapEntry::V { .. } => {
+            unreachable!()
+        }
         MapEntry::H(highest) => MapEntry::H(*highest),
-        MapEntry::B {
-            mailbox,
-            generation,
-            name,
-        } => MapEntry::B {
-            mailbox: *mailbox,
-            generation: *generation,
-            name: name_copy(alloc, name)?,
-        },
         MapEntry::G {
             mailbox,
             generation,
         } => MapEntry::G {
             mailbox: *mailbox,
             generation: *generation,
-        },
-        MapEntry::S {
-            origin,
-            count,
-            uid,
-            file,
-            offset,
-            size,
-            guid,
-            instances,
-        } => MapEntry::S {
-            origin: *origin,
-            count: *count,
-            uid: *uid,
-            file: *file,
-            offset: *offset,
-            size: *size,
-            guid: *guid,
-            instances: Seq::of(Vec::from_slice(alloc, instances.as_slice())?),
         },
         MapEntry::U { uid } => MapEntry::U { uid: *uid },
         MapEntry::D { uids } => MapEntry::D {
@@ -209,26 +196,11 @@ fn copy_of(alloc: Global, entry: &MapEntry) -> Result<MapEntry, NoMemory>
             moved: Seq::of(Vec::from_slice(alloc, moved.as_slice())?),
             dropped: Seq::of(Vec::from_slice(alloc, dropped.as_slice())?),
         },
-        MapEntry::E { file } => MapEntry::E { file: *file },
         MapEntry::X { mailbox, amounts } => MapEntry::X {
             mailbox: *mailbox,
             amounts: Seq::of(Vec::from_slice(alloc, amounts.as_slice())?),
         },
-        MapEntry::V { mailbox, name } => MapEntry::V {
-            mailbox: *mailbox,
-            name: name_copy(alloc, name)?,
-        },
     })
-}
-
-/// The same name once more.
-fn name_copy(alloc: Global, name: &Name) -> Result<Name, NoMemory>
-    ensures { IfOk result (λ copy. copy ≡ name.now) }
-{
-    match name_of(alloc, name.as_octets())? {
-        Some(copy) => Ok(copy),
-        None => unreachable!(),
-    }
 }
 
 /// The texts of entries.
