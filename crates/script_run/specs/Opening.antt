@@ -52,11 +52,12 @@ abbrev pub StaysSettled : Option History → Option History → Type 0
 StaysSettled old new = (lists : Lists) → IsSettledFor lists old → IsSettledFor lists new
 
 -- The store was not opened. Each crash image of a settled disk is safe for its lists; unless a change failed, it is settled
--- for them again, and all that the store reads is carried over. At each moment storage files and instances stayed.
--- A store that was closed well was left as it is.
+-- for them again, and the store opens again with logs that mean the same and the same mail. At each moment storage files and
+-- instances stayed. A store that was closed well was left as it is, and so was every disk unless the device failed or the memory
+-- wasn't there.
 pub record IsUnopened (why : OpenError) (old new : Option History) (began now : Faults) : Type 0 where
   pub cause : IsOpeningError old why
-  pub idle : (why ≡ error.DiskFault → ⊥) → IsIdle old new
+  pub idle : (why ≡ error.DiskFault → ⊥) → (why ≡ error.NoMemory → ⊥) → IsIdle old new
   pub untouched : IdleUnless Opening old new
   pub stays : KeepsOpenedMail old new
   pub closed_well : IdleIf IsClosedWell old new

@@ -20,6 +20,7 @@ use Rattle.model_store.specs.Settled.{files_of}
 use Rattle.model_store.specs.Stands.{AreListed, head_of}
 use Rattle.store_core.specs.MadeLogs.{has_made_log}
 use Rattle.store_core.specs.Value.{StoreValue, indexes_of, list_numbered}
+use Rattle.store_core.specs.declared.store.OpenBox.{OpenBox}
 
 -- What a caller sees of a draft: whose log it is, of which generation, the log, and what its entries mean.
 pub record BoxDraftValue : Type 0 where
@@ -62,6 +63,10 @@ AllFitBehind m (entry ∷ rest) = BoxFits m entry × AllFitBehind (box_applied e
 abbrev pub meanings_with : ℕ → BoxMeaning → List MapBox → List BoxMeaning → List BoxMeaning
 meanings_with number m (box ∷ boxes) (old ∷ olds) = (if number == box.number then m else old) ∷ meanings_with number m boxes olds
 meanings_with number m boxes olds = olds
+
+-- the mailboxes, where the one with the draft's number has the draft's log and what it means
+abbrev pub boxes_with : BoxDraftValue → List OpenBox → List OpenBox
+boxes_with draft boxes = map (λ b. if b.number.0 == draft.number.0 then record { number = draft.number; log = draft.log; index = draft.index } else b) boxes
 
 -- how many listed messages have this map uid, where the mailbox has the draft's list
 abbrev pub listed_with : {D : Type 0} → BoxDraftValue → ℕ → StoreValue D → ℕ

@@ -1,5 +1,6 @@
 -- What a caller sees of an open store.
-use Rattle.std.specs.Prelude.{ℕ, max, Bool, false, List, [], map, Option}
+use Rattle.std.specs.Prelude.{◌==◌, ℕ, max, Bool, false, List, [], map, find, Option}
+use Rattle.std.specs.Option.{option_map_or}
 use Rattle.std.specs.declared.alloc.Global.{Global}
 use Rattle.gate_log.specs.State.{LogState}
 use Rattle.mdbox_base.specs.declared.entries.Highest.{Highest}
@@ -87,6 +88,10 @@ list_named store name = meaning_named name store.map.boxes (indexes_of store.box
 
 abbrev pub list_numbered : {D : Type 0} → StoreValue D → ℕ → Option BoxMeaning
 list_numbered store number = meaning_numbered number store.map.boxes (indexes_of store.boxes)
+
+-- how many entries the log of the mailbox with this number has, 0 where there is none
+abbrev pub entries_of : ℕ → List OpenBox → ℕ
+entries_of number boxes = option_map_or (λ b. b.log.count) (find (λ b. b.number.0 == number) boxes) 0
 
 -- how many listed messages have this GUID
 abbrev pub references_to : {D : Type 0} → StoreValue D → List ℕ → ℕ

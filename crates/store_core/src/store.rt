@@ -1,5 +1,5 @@
 // A store that is open.
-ghost use Rattle.std.specs.Prelude.{◌≡◌, ◌↔◌, ◌<◌, ◌≤◌, ◌^◌, ◌==◌, ℕ, List, All, Some, None, IfSome, IfNone, OnOk, IsErr, IsErrOf, map, true, false, length, find, count_by, sum_by, if◌then◌else◌};
+ghost use Rattle.std.specs.Prelude.{◌≡◌, ◌↔◌, ◌<◌, ◌≤◌, ◌^◌, ◌+◌, ◌==◌, ℕ, List, All, Some, None, IfSome, IfNone, OnOk, IsErr, IsErrOf, map, true, false, length, find, count_by, sum_by, if◌then◌else◌};
 ghost use Rattle.std.specs.Option.{option_copied, option_map};
 ghost use Rattle.std.specs.Str.{bytes_eq};
 ghost use Rattle.disk_model.specs.Disk.{Grows, IsMoment};
@@ -20,7 +20,7 @@ ghost use Rattle.storage_files.specs.Files.{AreFilesInOrder};
 ghost use Rattle.store_core.specs.Append.{FitsBox, Brings};
 ghost use Rattle.store_core.specs.Dues.{due_at, leak_at, KeepsStored};
 ghost use Rattle.store_core.specs.Keeping.{KeepsMail};
-ghost use Rattle.store_core.specs.Value.{indexes_of, newly_open, with_entry_room, list_named, list_numbered, references_to};
+ghost use Rattle.store_core.specs.Value.{entries_of, indexes_of, newly_open, with_entry_room, list_named, list_numbered, references_to};
 ghost use Rattle.store_core.specs.Running.{HasEntryRoom, IsStore};
 ghost use Rattle.store_core.specs.StoreInstances.{HasKnownInstances};
 ghost use Rattle.store_core.specs.declared.error.StepError.TheVariants as step_error;
@@ -287,6 +287,9 @@ impl<D: Disk> Store<D> {
         ensures taken { OnOk result (indexes_of self.new.boxes ≡ meanings_by mailbox.0 entry.now self.old.map.boxes (indexes_of self.old.boxes)) }
         ensures due { OnOk result ((m : BoxMeaning) (uid : ℕ) → list_numbered self.old mailbox.0 ≡ Some m → due_at uid self.new ≡ due_by_box m entry.now (λ uid. due_at uid self.old) uid) }
         ensures leak { (uid : ℕ) → leak_at uid self.new ≡ leak_at uid self.old }
+
+        // The log has one entry more.
+        ensures counted { OnOk result (entries_of mailbox.0 self.new.boxes ≡ entries_of mailbox.0 self.old.boxes + 1) }
 
         // Each record stores what it stored. Storage files and instances are as they were.
         ensures stored { OnOk result (KeepsStored (D.history self.old.disk) (D.history self.new.disk)) }

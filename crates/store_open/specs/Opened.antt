@@ -1,5 +1,7 @@
 -- What the opening of a store answers, and what it leaves.
-use Rattle.std.specs.Prelude.{◌≡◌, ℕ, List, map, All, Option, Some, Result, Ok, Err, ⊤}
+use Rattle.std.specs.Prelude.{◌≡◌, ℕ, false, List, length, map, All, Option, Some, Result, Ok, Err, ⊤}
+use Rattle.std.specs.List.{AllZip}
+use Rattle.box_snapshot.specs.Due.{is_log_due, needs_of_box, needs_of_map}
 use Rattle.disk_model.specs.Disk.{DiskState, History, Between, IfTold, reading}
 use Rattle.disk_model.specs.declared.name.FileName.TheVariants as file
 use Rattle.mdbox_base.specs.declared.entries.BoxEntry.{BoxEntry}
@@ -9,9 +11,9 @@ use Rattle.model_kept.specs.Kept.{MailIsKept}
 use Rattle.model_logs.specs.declared.log_head.LogHead.{LogHead}
 use Rattle.model_logs.specs.LogFile.{HeadFits, EntryFits}
 use Rattle.model_meaning.specs.BoxMeaning.{BoxMeaning, box_meaning}
-use Rattle.model_meaning.specs.MapMeaning.{MapMeaning, map_meaning}
+use Rattle.model_meaning.specs.MapMeaning.{MapBox, MapMeaning, map_meaning}
 use Rattle.model_meaning.specs.SameMeaning.{MeansSame}
-use Rattle.model_store.specs.Carrying.{CarryOver}
+use Rattle.model_rewritten.specs.CarriedStore.{CarriesStore}
 use Rattle.model_store.specs.Settled.{files_of}
 use Rattle.model_store.specs.GoodLogs.{AreGoodLogs}
 use Rattle.model_store.specs.Opening.{HasNoEntry, Opens, IsDamaged}
@@ -35,9 +37,9 @@ pub record IsOpenedAs (old : Option History) (m : MapMeaning) (meanings : List B
   pub means : MeansSame (map_meaning m.store entries) m
   pub meanings_are : meanings ≡ map box_meaning logs
 
--- Whatever store the files open with, its files carry over all that it reads.
+-- Whatever store the files open with, they open again, with logs that mean the same but for generations, and with the same mail.
 abbrev pub StoreCarries : Option History → Option History → Type 0
-StoreCarries = Between (λ old new. (store : List ℕ) (entries : List MapEntry) (logs : List (List BoxEntry)) (o : Opens (files_of old) store entries logs) → CarryOver o.passed.map_log.generation (map_meaning store entries) (files_of old) (files_of new))
+StoreCarries = Between (λ old new. (store : List ℕ) (entries : List MapEntry) (logs : List (List BoxEntry)) → Opens (files_of old) store entries logs → CarriesStore store entries logs (files_of old) (files_of new))
 
 -- Whatever store the files open with, its storage files and instances stay at each moment.
 abbrev pub KeepsOpenedMail : Option History → Option History → Type 0
@@ -51,7 +53,12 @@ pub record IsClosedLog (octets : Option (List ℕ)) : Type 0 where
   pub entries_fit : All EntryFits entries
   pub is : octets ≡ Some (log_text head entries)
 
--- The files open, each log in force ends in a closed gate, and beside the logs nothing is to be swept.
+-- the log of a mailbox with these entries isn't due to be written anew
+abbrev pub IsBoxUndue : MapBox → List BoxEntry → Type 0
+IsBoxUndue box log = is_log_due (length log) (needs_of_box (box_meaning log)) box.generation ≡ false
+
+-- The files open, each log in force ends in a closed gate and isn't due to be written anew, and beside the logs nothing is to be
+-- swept.
 pub record IsClosedWell (disk : DiskState) : Type 0 where
   pub store : List ℕ
   pub entries : List MapEntry
@@ -60,6 +67,8 @@ pub record IsClosedWell (disk : DiskState) : Type 0 where
   pub root_log : IsClosedLog (reading (disk file.Root))
   pub map_log : IsClosedLog (reading (disk (file.Map opens.passed.map_log.generation)))
   pub box_logs : All (λ box. IsClosedLog (reading (disk (file.Box box.number box.generation)))) (map_meaning store entries).boxes
+  pub undue_map : is_log_due (length entries) (needs_of_map (map_meaning store entries)) opens.passed.map_log.generation ≡ false
+  pub undue_boxes : AllZip IsBoxUndue (map_meaning store entries).boxes logs
   pub nothing : HasNothingToSweep opens.passed.map_log.generation (map_meaning store entries) disk
 
 -- Why a store was not opened: its root log has no entry; or its files are damaged, and this is the place; or the device

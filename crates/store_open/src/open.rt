@@ -12,6 +12,7 @@ ghost use Rattle.store_core.specs.Running.{IsStore};
 ghost use Rattle.store_core.specs.StoreInstances.{HasKnownInstances};
 ghost use Rattle.store_files.specs.Found.{IsFoundFiles};
 ghost use Rattle.store_instances.specs.FoundInstances.{IsFoundInstances};
+ghost use Rattle.box_snapshot.specs.Due.{NoLogDue};
 ghost use Rattle.store_open.specs.Making.{IdleUnless};
 ghost use Rattle.store_open.specs.Opened.{Opening, IsOpenedAs, StoreCarries, KeepsOpenedMail, IsClosedWell, IsOpeningError, IsFaulted, disk_of};
 ghost use Rattle.store_sweep.specs.Moments.{NoFailedChange, IdleIf};
@@ -38,13 +39,17 @@ pub(crate) struct OpenParts {
     pub(crate) room: StoreRoom,
 }
 
-/// Opens the store: makes the checks, finds the instances and the storage files, and then sweeps the disk.
+/// Opens the store: makes the checks, finds the instances and the storage files, and then sweeps the disk, and writes logs anew that
+/// have many more entries than they need.
 pub fn open_store<D: Disk>(alloc: Global, disk: D, lanes: u32) -> Result<Store<D>, OpenRefused<D>>
     requires lanes { (1 ≤ lanes) × (lanes ≤ 64) }
 
     // The store has what the files meant, and isn't stopped.
     ensures opened { IfOk result (λ store. IsOpenedAs (D.history disk) store.map (indexes_of store.boxes)) }
     ensures state { IfOk result (λ store. (store.lanes ≡ lanes) × (store.stopped ≡ false) × (store.alloc ≡ alloc) × (store.drawn ≡ store.map.highest) × (store.dues ≡ none_due store.map.records)) }
+
+    // No log is due to be written anew.
+    ensures undue { IfOk result NoLogDue }
 
     // No log of a mailbox was made that the map doesn't name.
     ensures made { IfOk result (λ store. store.made ≡ []) }
@@ -58,12 +63,12 @@ pub fn open_store<D: Disk>(alloc: Global, disk: D, lanes: u32) -> Result<Store<D
     // Of a settled disk it shows the lists.
     ensures shows { IfOk result (λ store. (lists : Lists) → IsSettledFor lists (D.history disk) → ShowLists store.map.boxes (indexes_of store.boxes) lists) }
 
-    // Whatever is answered, where no change failed a settled disk is settled for the same lists again, and of any disk all that
-    // the store reads is carried over.
+    // Whatever is answered, where no change failed a settled disk is settled for the same lists again, and of any disk the store
+    // opens again, with logs that mean the same and the same mail.
     ensures settled_again { NoFailedChange (IsFaulted result) (D.faults disk) (D.faults (disk_of result)) → (lists : Lists) → IsSettledFor lists (D.history disk) → IsSettledFor lists (D.history (disk_of result)) }
     ensures carried { NoFailedChange (IsFaulted result) (D.faults disk) (D.faults (disk_of result)) → StoreCarries (D.history disk) (D.history (disk_of result)) }
 
-    // After Ok the disk is swept.
+    // After Ok the disk is swept, as the map log that is in force then says.
     ensures swept { IfOk result (λ store. (generation : ℕ) × (store.map_log.name ≡ file.Map generation) × IsSwept generation store.map (D.history disk) (D.history store.disk)) }
 
     // At every moment, whatever fails, each image of a settled disk is safe for the same lists.
@@ -73,11 +78,13 @@ pub fn open_store<D: Disk>(alloc: Global, disk: D, lanes: u32) -> Result<Store<D
     // what a crash could leave of them at the beginning: of a sealed file all of it, of another as far as the end of each region.
     ensures mail_stays { KeepsOpenedMail (D.history disk) (D.history (disk_of result)) }
 
-    // A store that was closed well is left as it is, whatever fails.
+    // A store that was closed well, none of whose logs is due, is left as it is, whatever fails.
     ensures closed_well { IdleIf IsClosedWell (D.history disk) (D.history (disk_of result)) }
 
     ensures refused { IfErr result (λ refused. IsOpeningError (D.history disk) refused.error) }
-    ensures idle { IfErr result (λ refused. (refused.error ≡ OpenError.DiskFault → ⊥) → IsIdle (D.history disk) (D.history refused.disk)) }
+
+    // A refusal for another cause than a failing device or want of memory leaves the disk as it is.
+    ensures idle { IfErr result (λ refused. (refused.error ≡ OpenError.DiskFault → ⊥) → (refused.error ≡ OpenError.NoMemory → ⊥) → IsIdle (D.history disk) (D.history refused.disk)) }
 
     // Whatever is answered, nothing changes where the files don't open.
     ensures untouched { IdleUnless Opening (D.history disk) (D.history (disk_of result)) }

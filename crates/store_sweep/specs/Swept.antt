@@ -7,6 +7,7 @@ use Rattle.mdbox_base.specs.declared.entries.MapEntry.{MapEntry}
 use Rattle.mdbox_base.specs.declared.entries.BoxEntry.{BoxEntry}
 use Rattle.model_lists.specs.Lists.{Lists}
 use Rattle.model_meaning.specs.MapMeaning.{MapMeaning, map_meaning, is_sealed}
+use Rattle.model_rewritten.specs.CarriedStore.{CarriesMail}
 use Rattle.model_store.specs.Settled.{files_of, IsSettled}
 use Rattle.model_store.specs.Carrying.{CarryOver}
 use Rattle.model_store.specs.Opening.{Opens}
@@ -40,12 +41,12 @@ pub record IsOpened (old new : Option History) (found : InspectedLog) (log : Log
 abbrev pub EndWithRegions : MapMeaning → DiskState → Type 0
 EndWithRegions m disk = (number : ℕ) → IsThere (disk (file.Mail number)) → is_sealed m number ≡ false → length (disk (file.Mail number)).octets ≡ end_of m number
 
--- What a sweep leaves of a disk whose map log of this generation means this: the files carry over what the store reads. No
--- file is there that the store doesn't need, and each file that it needs or that is sealed is there if it was. Each storage
+-- What a sweep leaves of a disk whose map log of this generation means this: each record's region and each named instance read as
+-- before. No file is there that the store doesn't need, and each file that it needs or that is sealed is there if it was. Each storage
 -- file has the content that it had, or, where it isn't sealed, was cut to where its last region ends and synced; one that
 -- isn't sealed ends there. Names are synced where a file was removed.
 pub record IsSwept (generation : ℕ) (m : MapMeaning) (old new : Option History) : Type 0 where
-  pub reads : FilesCarry generation m old new
+  pub reads : Between (λ was now. CarriesMail m (files_of was) (files_of now)) old new
   pub only : IfTold new (λ now. (name : FileName) → IsThere (now name) → is_wanted generation m name ≡ true)
   pub kept : KeepsWanted generation m old new
   pub mail : AreFitted m old new

@@ -1,16 +1,15 @@
 // Drafts of mailbox logs: made beside the log in force, extended, and put in its place.
-ghost use Rattle.std.specs.Prelude.{◌≡◌, ◌↔◌, ◌≤◌, ◌+◌, ◌-◌, ◌==◌, ◌++◌, ◌∷◌, [], ℕ, List, All, Some, find, fold, is_some, length, IfOk, IsErr, IsTrue, OnOk, IsErrOf, true, false};
+ghost use Rattle.std.specs.Prelude.{◌≡◌, ◌↔◌, ◌≤◌, ◌+◌, ◌-◌, ◌++◌, ◌∷◌, [], ℕ, List, All, Some, map, fold, is_some, length, IfOk, IsErr, IsTrue, OnOk, IsErrOf, true, false};
 ghost use Rattle.std.specs.List.{AllByRecursion};
-ghost use Rattle.std.specs.Option.{option_map};
 ghost use Rattle.disk_model.specs.Disk.{Between, EachImage, Grows, IfTold, OthersStay, SameButFor, no_file};
 ghost use Rattle.disk_model.specs.FaultCounts.{NoFault, ChangeFaultCounted};
 ghost use Rattle.disk_model.specs.declared.name.FileName.TheVariants as file;
-ghost use Rattle.gate_log.specs.Log.{Holds, NamedButFor, Reads};
+ghost use Rattle.gate_log.specs.Log.{Drafts, Holds, NamedButFor, Reads};
 ghost use Rattle.gate_log.specs.State.{IsSameLog};
 ghost use Rattle.mdbox_base.specs.declared.entries.MapEntry.TheVariants as map_entry;
 ghost use Rattle.model_kept.specs.Kept.{MailIsKept};
 ghost use Rattle.model_lists.specs.Lists.{ListedMessage, Lists};
-ghost use Rattle.model_logs.specs.Entries.{BoxInRange, map_text};
+ghost use Rattle.model_logs.specs.Entries.{BoxInRange, box_text, map_text};
 ghost use Rattle.model_meaning.specs.BoxMeaning.{box_applied, box_meaning, row_made};
 ghost use Rattle.model_meaning.specs.MapMeaning.{MapBox, MapMeaning, box_at, map_applied};
 ghost use Rattle.model_meaning.specs.MapFits.{MapFits};
@@ -19,10 +18,10 @@ ghost use Rattle.model_rewritten.specs.Switched.{list_switched};
 ghost use Rattle.model_store.specs.Opening.{HasItsRecord};
 ghost use Rattle.model_store.specs.Settled.{IsSettledFor, Leaves};
 ghost use Rattle.store_core.specs.Append.{AddsText};
-ghost use Rattle.store_core.specs.Drafts.{AllFitBehind, AreNamedButFor, GivesLists, IsBoxDraft, IsHeldDraft, IsNewer, IsOutOfForce, ListsMessages, listed_with, meanings_with};
+ghost use Rattle.store_core.specs.Drafts.{AllFitBehind, AreNamedButFor, GivesLists, IsBoxDraft, IsHeldDraft, IsNewer, IsOutOfForce, ListsMessages, boxes_with, listed_with, meanings_with};
 ghost use Rattle.store_core.specs.Dues.{KeepsStored, due_at, leak_at, listed_at};
 ghost use Rattle.store_core.specs.MadeLogs.{has_made_log};
-ghost use Rattle.store_core.specs.Value.{entry_room, indexes_of, list_numbered};
+ghost use Rattle.store_core.specs.Value.{entries_of, entry_room, indexes_of, list_numbered};
 ghost use Rattle.store_core.specs.declared.error.StepError.TheVariants as step_error;
 
 use super::append_map::append_entry;
@@ -58,6 +57,7 @@ impl<D: Disk> Store<D> {
         ensures number { IfOk result (λ draft. (draft.number ≡ mailbox) × (draft.generation ≡ generation)) }
         ensures empty { IfOk result (λ draft. draft.index.meaning ≡ box_meaning []) }
         ensures draft { IfOk result (λ draft. IsBoxDraft (D.history self.new.disk) draft self.new) }
+        ensures nothing { IfOk result (λ draft. Drafts draft.log [] (D.history self.new.disk)) }
         ensures others { OnOk result (NamedButFor (file.Box mailbox.0 generation) (D.history self.old.disk) (D.history self.new.disk)) }
 
         ensures stopped { IsErrOf result step_error.Stopped ↔ (self.new.stopped ≡ true) }
@@ -115,6 +115,7 @@ impl<D: Disk> Store<D> {
         // After Ok the draft means what it did, with the entries. No other file has changed.
         ensures draft { OnOk result (IsBoxDraft (D.history self.new.disk) draft.new self.new) }
         ensures taken { OnOk result (draft.new.index.meaning ≡ fold (λ m e. box_applied e m) draft.old.index.meaning entries.now) }
+        ensures added { OnOk result ((texts : List (List ℕ)) → Drafts draft.old.log texts (D.history self.old.disk) → Drafts draft.new.log (texts ++ map box_text entries.now) (D.history self.new.disk)) }
         ensures number { (draft.new.number ≡ draft.old.number) × (draft.new.generation ≡ draft.old.generation) }
         ensures others { OnOk result (SameButFor draft.old.log.name (D.history self.old.disk) (D.history self.new.disk)) }
 
@@ -165,7 +166,8 @@ impl<D: Disk> Store<D> {
         // means the same, whatever is answered.
         ensures taken { OnOk result (self.new.map ≡ map_applied (map_entry.G draft.number draft.generation) self.old.map) }
         ensures indexes { OnOk result (indexes_of self.new.boxes ≡ meanings_with draft.number.0 draft.index.meaning self.old.map.boxes (indexes_of self.old.boxes)) }
-        ensures log { OnOk result (option_map (λ b. b.log) (find (λ b. b.number.0 == draft.number.0) self.new.boxes) ≡ Some draft.log) }
+        ensures boxes { OnOk result (self.new.boxes ≡ boxes_with draft self.old.boxes) }
+        ensures reads { OnOk result ((texts : List (List ℕ)) → Drafts draft.log texts (D.history self.old.disk) → Reads draft.log texts (D.history self.new.disk)) }
         ensures means { MeansSame self.old.map self.new.map }
         ensures due { (uid : ℕ) → due_at uid self.new ≡ due_at uid self.old }
         ensures leak { OnOk result ((uid : ℕ) → leak_at uid self.new ≡ leak_at uid self.old + listed_at uid self.old - listed_with draft uid self.old) }
@@ -195,7 +197,7 @@ impl<D: Disk> Store<D> {
     /// How many entries the log of this mailbox of the map has.
     pub fn box_entries(&self, mailbox: BoxNo) -> u64
         requires { IsTrue (is_some (box_at self.now.map mailbox.0)) }
-        ensures { option_map (λ b. b.log.count) (find (λ b. b.number.0 == mailbox.0) self.now.boxes) ≡ Some result }
+        ensures { result ≡ entries_of mailbox.0 self.now.boxes }
     {
         match with_number(&self.boxes, mailbox) {
             Some(open_box) => open_box.log.count(),
@@ -247,7 +249,7 @@ impl<D: Disk> Store<D> {
         ensures stored { OnOk result (KeepsStored (D.history self.old.disk) (D.history self.new.disk)) }
         ensures taken { OnOk result (self.new.map ≡ map_applied (map_entry.G draft.number draft.generation) self.old.map) }
         ensures indexes { OnOk result (indexes_of self.new.boxes ≡ meanings_with draft.number.0 draft.index.meaning self.old.map.boxes (indexes_of self.old.boxes)) }
-        ensures log { OnOk result (option_map (λ b. b.log) (find (λ b. b.number.0 == draft.number.0) self.new.boxes) ≡ Some draft.log) }
+        ensures boxes { OnOk result (self.new.boxes ≡ boxes_with draft self.old.boxes) }
         ensures leak { OnOk result ((uid : ℕ) → leak_at uid self.new ≡ leak_at uid self.old + listed_at uid self.old - listed_with draft uid self.old) }
         ensures means { MeansSame self.old.map self.new.map }
         ensures others { OnOk result (SameButFor self.old.map_log.name (D.history self.old.disk) (D.history self.new.disk)) }

@@ -1,15 +1,15 @@
 // Drafts of the map log: made beside the one in force, extended, and put in its place.
-ghost use Rattle.std.specs.Prelude.{◌≡◌, ◌≢◌, ◌↔◌, ◌<◌, ◌≤◌, ◌+◌, ◌++◌, ◌∷◌, [], ℕ, List, fold, length, IfOk, IsErr, OnOk, IsErrOf, true, false};
+ghost use Rattle.std.specs.Prelude.{◌≡◌, ◌≢◌, ◌↔◌, ◌<◌, ◌≤◌, ◌+◌, ◌++◌, ◌∷◌, [], ℕ, List, map, fold, length, IfOk, IsErr, OnOk, IsErrOf, true, false};
 ghost use Rattle.std.specs.List.{AllByRecursion};
 ghost use Rattle.disk_model.specs.Disk.{Between, EachImage, Grows, IfTold, OthersStay, SameButFor, no_file};
 ghost use Rattle.disk_model.specs.FaultCounts.{NoFault, ChangeFaultCounted};
 ghost use Rattle.disk_model.specs.declared.name.FileName.TheVariants as file;
-ghost use Rattle.gate_log.specs.Log.{Holds, NamedButFor, Reads};
+ghost use Rattle.gate_log.specs.Log.{Drafts, Holds, NamedButFor, Reads};
 ghost use Rattle.gate_log.specs.State.{IsSameLog};
 ghost use Rattle.mdbox_base.specs.declared.entries.RootEntry.TheVariants as root_entry;
 ghost use Rattle.model_kept.specs.Kept.{MailIsKept};
 ghost use Rattle.model_lists.specs.Lists.{Lists};
-ghost use Rattle.model_logs.specs.Entries.{MapInRange, root_text};
+ghost use Rattle.model_logs.specs.Entries.{MapInRange, map_text, root_text};
 ghost use Rattle.model_logs.specs.declared.log_head.LogKind.TheVariants as kind;
 ghost use Rattle.model_meaning.specs.MapMeaning.{MapMeaning, map_applied, map_meaning};
 ghost use Rattle.model_store.specs.Settled.{IsSettledFor, Leaves};
@@ -61,6 +61,7 @@ impl<D: Disk> Store<D> {
         ensures number { IfOk result (λ draft. (generation : ℕ) → self.old.map_log.name ≡ file.Map generation → draft.generation ≡ generation + 1) }
         ensures empty { IfOk result (λ draft. draft.map.meaning ≡ map_meaning self.old.map.store []) }
         ensures draft { IfOk result (λ draft. IsMapDraft (D.history self.new.disk) draft self.new) }
+        ensures nothing { IfOk result (λ draft. Drafts draft.log [] (D.history self.new.disk)) }
         ensures others { IfOk result (λ draft. NamedButFor draft.log.name (D.history self.old.disk) (D.history self.new.disk)) }
 
         ensures stopped { IsErrOf result step_error.Stopped ↔ (self.new.stopped ≡ true) }
@@ -114,6 +115,7 @@ impl<D: Disk> Store<D> {
         // After Ok the draft means what it did, with the entries. No other file has changed.
         ensures draft { OnOk result (IsMapDraft (D.history self.new.disk) draft.new self.new) }
         ensures taken { OnOk result (draft.new.map.meaning ≡ fold (λ m e. map_applied e m) draft.old.map.meaning entries.now) }
+        ensures added { OnOk result ((texts : List (List ℕ)) → Drafts draft.old.log texts (D.history self.old.disk) → Drafts draft.new.log (texts ++ map map_text entries.now) (D.history self.new.disk)) }
         ensures number { draft.new.generation ≡ draft.old.generation }
         ensures others { OnOk result (SameButFor draft.old.log.name (D.history self.old.disk) (D.history self.new.disk)) }
 
@@ -157,6 +159,7 @@ impl<D: Disk> Store<D> {
         // After Ok the map log is the draft's, and the old one is removed, and no crash leaves it. Each file but this, the
         // draft and the root log is as it was, with its name synced.
         ensures log { OnOk result (self.new.map_log ≡ draft.log) }
+        ensures reads { OnOk result ((texts : List (List ℕ)) → Drafts draft.log texts (D.history self.old.disk) → Reads draft.log texts (D.history self.new.disk)) }
         ensures gone { OnOk result (IfTold (D.history self.new.disk) (λ now. now self.old.map_log.name ≡ no_file)) }
         ensures others { OnOk result (Between (AreNamedButFor self.old.root_log.name self.old.map_log.name draft.log.name) (D.history self.old.disk) (D.history self.new.disk)) }
 

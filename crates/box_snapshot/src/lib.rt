@@ -1,0 +1,12 @@
+//! Logs of a store that have many more entries than they need are written anew, with an entry for what is there.
+#![tactic(auto)]
+
+pub use box_log::snapshot_box;
+pub use due::{box_due, map_due};
+pub use due_logs::snapshot_due;
+pub use map_log::snapshot_map;
+
+mod box_log;
+mod due;
+mod due_logs;
+mod map_log;
