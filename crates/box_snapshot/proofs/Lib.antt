@@ -1,0 +1,2 @@
+mod MapEntryLemmas
+mod MapGroupLemmas
