@@ -35,6 +35,7 @@ pub fn snapshot_map<D: Disk>(store: &mut Store<D>) -> Result<(), StepError>
     ensures fault { ChangeFaultCounted (IsErrOf result step_error.Stopped) (D.faults store.old.disk) (D.faults store.new.disk) }
     ensures unfailed { (IsErrOf result step_error.Stopped → ⊥) → NoFault (D.faults store.old.disk) (D.faults store.new.disk) }
 {
+    store.facts();
     let draft = drafted(store)?;
     store.switch_map(draft)
 }
@@ -45,6 +46,7 @@ fn drafted<D: Disk>(store: &mut Store<D>) -> Result<MapDraft, StepError>
     requires due { is_map_due store.old ≡ true }
     ensures rewrites { Rewrites D.history store.old store.new }
     ensures filled { IfOk result (λ draft. IsFilled (D.history store.new.disk) (map_snapshot store.old.map) draft store.new) }
+    ensures means { IfOk result (λ draft. draft.map.meaning ≡ store.old.map) }
     ensures generation { IfOk result (λ draft. draft.generation ≡ store.old.map_log.head.generation + 1) }
     ensures others { IfOk result (λ draft. NamedButFor draft.log.name (D.history store.old.disk) (D.history store.new.disk)) }
     ensures stopped { IsErrOf result step_error.Stopped ↔ (store.new.stopped ≡ true) }
@@ -53,6 +55,7 @@ fn drafted<D: Disk>(store: &mut Store<D>) -> Result<MapDraft, StepError>
     ensures unfailed { (IsErrOf result step_error.Stopped → ⊥) → NoFault (D.faults store.old.disk) (D.faults store.new.disk) }
 {
     store.facts();
+    known_snapshot(store);
     let mut draft = store.draft_map()?;
     fill(store, &mut draft)?;
     Ok(draft)
