@@ -1,1 +1,3 @@
-
+mod DueLemmas
+mod MapEntryLemmas
+mod MapGroupLemmas
