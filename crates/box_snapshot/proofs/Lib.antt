@@ -1,0 +1,2 @@
+mod DueLogsLemmas
+pub mod RewritesLemmas
