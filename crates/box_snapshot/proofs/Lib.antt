@@ -1,2 +1,3 @@
+mod DueLemmas
 mod DueLogsLemmas
 pub mod RewritesLemmas

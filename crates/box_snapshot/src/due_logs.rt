@@ -1,5 +1,5 @@
 // All logs that are due are written anew.
-ghost use Rattle.std.specs.Prelude.{◌≡◌, ◌↔◌, ◌<◌, ◌+◌, All, Ok, OnOk, IsErrOf, length, [], false, true, tt};
+ghost use Rattle.std.specs.Prelude.{◌≡◌, ◌↔◌, ◌<◌, ◌+◌, All, Ok, OnOk, IsErrOf, length, [], false, true};
 ghost use Rattle.disk_model.specs.FaultCounts.{NoFault, ChangeFaultCounted};
 ghost use Rattle.store_core.specs.declared.error.StepError.TheVariants as step_error;
 ghost use Rattle.box_snapshot.specs.Due.{AreUndueTo, NoLogDue, is_box_due, is_map_due};
