@@ -1,3 +1,5 @@
 mod DueLemmas
 mod DueLogsLemmas
+mod MapEntryLemmas
+mod MapGroupLemmas
 pub mod RewritesLemmas
