@@ -2,4 +2,5 @@ mod DueLemmas
 mod DueLogsLemmas
 mod MapEntryLemmas
 mod MapGroupLemmas
+mod OpenAgainLemmas
 pub mod RewritesLemmas
