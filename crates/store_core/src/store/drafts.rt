@@ -166,12 +166,14 @@ impl<D: Disk> Store<D> {
         ensures stored { OnOk result (KeepsStored (D.history self.old.disk) (D.history self.new.disk)) }
 
         // After Ok the map means what it did, with the entry, and the mailbox's log is the draft. But for generations the map
-        // means the same, whatever is answered.
+        // means the same, whatever is answered, and where the draft means what the log in force means, so do all mailboxes.
         ensures taken { OnOk result (self.new.map ≡ map_applied (map_entry.G draft.number draft.generation) self.old.map) }
         ensures indexes { OnOk result (indexes_of self.new.boxes ≡ meanings_with draft.number.0 draft.index.meaning self.old.map.boxes (indexes_of self.old.boxes)) }
         ensures boxes { OnOk result (self.new.boxes ≡ boxes_with draft self.old.boxes) }
         ensures reads { OnOk result ((texts : List (List ℕ)) → Drafts draft.log texts (D.history self.old.disk) → Reads draft.log texts (D.history self.new.disk)) }
         ensures means { MeansSame self.old.map self.new.map }
+        ensures same_indexes { list_numbered self.old draft.number.0 ≡ Some draft.index.meaning → indexes_of self.new.boxes ≡ indexes_of self.old.boxes }
+        ensures same_log { IsSameLog self.old.map_log self.new.map_log }
         ensures due { (uid : ℕ) → due_at uid self.new ≡ due_at uid self.old }
         ensures leak { OnOk result ((uid : ℕ) → leak_at uid self.new ≡ leak_at uid self.old + listed_at uid self.old - listed_with draft uid self.old) }
 
@@ -256,6 +258,8 @@ impl<D: Disk> Store<D> {
         ensures boxes { OnOk result (self.new.boxes ≡ boxes_with draft self.old.boxes) }
         ensures leak { OnOk result ((uid : ℕ) → leak_at uid self.new ≡ leak_at uid self.old + listed_at uid self.old - listed_with draft uid self.old) }
         ensures means { MeansSame self.old.map self.new.map }
+        ensures same_indexes { list_numbered self.old draft.number.0 ≡ Some draft.index.meaning → indexes_of self.new.boxes ≡ indexes_of self.old.boxes }
+        ensures same_log { IsSameLog self.old.map_log self.new.map_log }
         ensures others { OnOk result (SameButFor self.old.map_log.name (D.history self.old.disk) (D.history self.new.disk)) }
         ensures untaken { IsErr result → (self.new.map ≡ self.old.map) × (self.new.boxes ≡ self.old.boxes) }
         ensures stopped { IsErr result ↔ (self.new.stopped ≡ true) }
