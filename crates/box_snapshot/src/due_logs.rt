@@ -1,5 +1,5 @@
 // All logs that are due are written anew.
-ghost use Rattle.std.specs.Prelude.{◌≡◌, ◌↔◌, Ok, OnOk, IsErrOf, [], false, true, tt};
+ghost use Rattle.std.specs.Prelude.{◌≡◌, ◌↔◌, Ok, OnOk, IsErrOf, [], false, true};
 ghost use Rattle.disk_model.specs.FaultCounts.{NoFault, ChangeFaultCounted};
 ghost use Rattle.store_core.specs.declared.error.StepError.TheVariants as step_error;
 ghost use Rattle.box_snapshot.specs.Due.{NoLogDue};
