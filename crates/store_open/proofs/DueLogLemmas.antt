@@ -1,14 +1,13 @@
 -- What an opening answers whose due logs were written anew, from what was known before that.
-use Rattle.std.proofs.Common.{◌≡◌, ◌⊎◌, inl, inr, ℕ, Bool, true, false, List, [], Option, Some, None, Result, Ok, Err, refl, sym, ◌∙◌, ap, subst}
-use Rattle.std.specs.Prelude.{◌↔◌, IfOk, IfErr, IsErrOf}
+use Rattle.std.proofs.Common.{◌≡◌, ◌⊎◌, inl, inr, ℕ, Bool, true, false, List, Option, Some, None, Result, Ok, Err, refl, sym, ◌∙◌, ap, subst}
+use Rattle.std.specs.Prelude.{◌↔◌, IfOk, IsErrOf}
 use Rattle.std.proofs.lemmas.Bool.{cases_Bool}
-use Rattle.std.specs.declared.alloc.Global.{Global}
 use Rattle.box_snapshot.specs.Due.{NoLogDue}
-use Rattle.box_snapshot.specs.Rewrites.{AreNamesSynced, LeavesNoOldLogs, Rewrites, SyncsMail}
+use Rattle.box_snapshot.specs.Rewrites.{AreNamesSynced, LeavesNoOldLogs, SyncsMail}
 use Rattle.disk_model.proofs.BetweenLemmas.{between-map, between-then}
 use Rattle.disk_model.proofs.MomentLemmas.{each_image-then, if_told-both}
-use Rattle.disk_model.specs.Disk.{Between, DiskState, EachImage, Faults, Files, History, IfTold, IsIdle}
-use Rattle.disk_model.specs.FaultCounts.{NoFault, ChangeFaultCounted, AnyFaultCounted}
+use Rattle.disk_model.specs.Disk.{Between, EachImage, Faults, Files, History, IfTold}
+use Rattle.disk_model.specs.FaultCounts.{NoFault, ChangeFaultCounted}
 use Rattle.disk_model.specs.declared.name.FileName.TheVariants as file
 use Rattle.mdbox_base.specs.declared.entries.BoxEntry.{BoxEntry}
 use Rattle.mdbox_base.specs.declared.entries.MapEntry.{MapEntry}
@@ -16,16 +15,14 @@ use Rattle.model_kept.proofs.KeptLemmas.{ReadsImage, kept_then}
 use Rattle.model_kept.specs.Kept.{MailIsKept}
 use Rattle.model_lists.specs.Lists.{Lists}
 use Rattle.model_logs.specs.declared.log_head.LogHead.{LogHead}
-use Rattle.model_meaning.specs.BoxMeaning.{BoxMeaning}
-use Rattle.model_meaning.specs.MapMeaning.{MapMeaning, MapRecord}
+use Rattle.model_meaning.specs.MapMeaning.{MapMeaning}
 use Rattle.model_rewritten.specs.CarriedStore.{CarriesStore}
 use Rattle.model_store.proofs.StandsLemmas.{root_same}
 use Rattle.model_store.specs.Listing.{ShowLists}
-use Rattle.model_store.specs.Opening.{Opens}
 use Rattle.model_store.specs.Safe.{Safe}
 use Rattle.model_store.specs.Settled.{files_of, IsSettledFor}
 use Rattle.store_core.specs.Running.{IsStore}
-use Rattle.store_core.specs.Value.{StoreValue, indexes_of, none_due}
+use Rattle.store_core.specs.Value.{StoreValue, indexes_of}
 use Rattle.store_core.specs.declared.error.StepError.{StepError}
 use Rattle.store_core.specs.declared.error.StepError.TheVariants as step_error
 use Rattle.store_files.specs.Found.{IsFoundFiles}
@@ -33,10 +30,9 @@ use Rattle.store_instances.specs.FoundInstances.{IsFoundInstances}
 use Rattle.store_open.proofs.CheckedLemmas.{OpensAt}
 use Rattle.store_open.proofs.RewrittenLemmas.{carries_written, files_same, instances_same, opened_same, shows_same, undue_closed}
 use Rattle.store_open.proofs.RewrittenSweepLemmas.{AllWanted, IsWrittenDisk, NoOthers, names_synced, swept_written, unneeded_gone}
-use Rattle.store_open.specs.Opened.{IsClosedWell, IsFaulted, IsOpenedAs, IsOpeningError, StoreCarries, disk_of}
+use Rattle.store_open.specs.Opened.{IsClosedWell, IsFaulted, IsOpenedAs, StoreCarries, disk_of}
 use Rattle.store_open.specs.Causes.{of_step}
 use Rattle.store_open.specs.Rewritten.{WritesDueLogs}
-use Rattle.store_open.specs.declared.error.OpenError.{OpenError}
 use Rattle.store_open.specs.declared.error.OpenError.TheVariants.{DiskFault, NoMemory}
 use Rattle.store_open.specs.declared.error.OpenRefused.{OpenRefused}
 use Rattle.store_sweep.proofs.IdleSweepLemmas.{idle_same}

@@ -1,11 +1,11 @@
 -- A store whose logs were written anew, by what its map and its logs mean.
-use Rattle.std.proofs.Common.{◌≡◌, inl, inr, ℕ, false, List, [], ◌∷◌, length, map, Option, Some, None, All, refl, sym, ◌∙◌, ap, subst}
+use Rattle.std.proofs.Common.{◌≡◌, ℕ, false, List, [], ◌∷◌, length, map, Option, Some, None, All, sym, ◌∙◌, ap, subst}
 use Rattle.std.specs.List.{AllZip}
 use Rattle.std.proofs.lemmas.List.{length-map}
 use Rattle.std.proofs.lemmas.List.Elements.{All-nil, All-cons}
-use Rattle.box_snapshot.specs.Due.{NoLogDue, is_box_due, is_log_due, is_map_due, needs_of_box, needs_of_map}
+use Rattle.box_snapshot.specs.Due.{NoLogDue, is_box_due, is_log_due, needs_of_box, needs_of_map}
 use Rattle.box_snapshot.specs.Rewrites.{SyncsMail}
-use Rattle.disk_model.specs.Disk.{Files, DiskState, History, Between, IfTold}
+use Rattle.disk_model.specs.Disk.{History, Between, IfTold}
 use Rattle.mdbox_base.specs.declared.entries.BoxEntry.{BoxEntry}
 use Rattle.mdbox_base.specs.declared.entries.Highest.{Highest}
 use Rattle.mdbox_base.specs.declared.entries.MapEntry.{MapEntry}
@@ -14,7 +14,7 @@ use Rattle.model_logs.specs.Entries.{box_text, map_text}
 use Rattle.model_logs.specs.declared.log_head.LogHead.{LogHead}
 use Rattle.model_meaning.proofs.SameMeaningLemmas.{means_along}
 use Rattle.model_meaning.specs.BoxMeaning.{BoxMeaning, box_meaning}
-use Rattle.model_meaning.specs.MapMeaning.{MapBox, MapMeaning, MapRecord, map_meaning, named_instances}
+use Rattle.model_meaning.specs.MapMeaning.{MapBox, MapMeaning, MapRecord, map_meaning}
 use Rattle.model_meaning.specs.SameMeaning.{MeansSame}
 use Rattle.model_rewritten.specs.CarriedStore.{CarriesStore}
 use Rattle.model_store.proofs.OpeningLemmas.{one_store}

@@ -1,10 +1,9 @@
 -- A disk that was swept, and on which logs were written anew then: it is swept as the new logs say.
-use Rattle.std.proofs.Common.{◌≡◌, ◌≢◌, ◌⊎◌, ◌==◌, ◌&&◌, inl, inr, ℕ, Bool, true, false, List, [], ◌∷◌, take, Option, Some, None, All, get_or, ◌<◌, length, refl, sym, ◌∙◌, ap, subst}
-use Rattle.std.specs.List.{list_any}
+use Rattle.std.proofs.Common.{◌≡◌, ◌≢◌, ◌⊎◌, ◌==◌, ◌&&◌, inl, inr, ℕ, true, false, List, [], ◌∷◌, take, Option, Some, None, All, get_or, refl, sym, ◌∙◌, ap, subst}
 use Rattle.std.proofs.lemmas.Bool.{cases_Bool, eqb-true, eq-eqb, and_from, and_parts, true≢false, false≢true}
-use Rattle.std.proofs.lemmas.List.Elements.{All-nil, All-cons, All-contains, All-head, All-tail}
+use Rattle.std.proofs.lemmas.List.Elements.{All-nil, All-cons, All-contains}
 use Rattle.std.proofs.lemmas.List.Folds.{Any-from_list_any, list_any_at}
-use Rattle.box_snapshot.specs.Rewrites.{AreNamesSynced, LeavesNoOldLogs, OnlyLogsInForce, SyncsMail}
+use Rattle.box_snapshot.specs.Rewrites.{AreNamesSynced, SyncsMail}
 use Rattle.disk_model.proofs.BetweenLemmas.{between-both, between-map, between-on, between-since, between-then}
 use Rattle.disk_model.proofs.FirmLemmas.{reads_there}
 use Rattle.disk_model.specs.Disk.{Files, FileState, DiskState, History, Between, IfTold, IsThere}
@@ -17,16 +16,14 @@ use Rattle.model_meaning.specs.MapMeaning.{MapBox, MapMeaning, MapRecord, is_sea
 use Rattle.model_meaning.specs.SameMeaning.{MeansSame}
 use Rattle.model_rewritten.specs.CarriedStore.{CarriesMail}
 use Rattle.model_rewritten.specs.Unneeded.{IsUnneeded}
-use Rattle.model_store.proofs.StandsLemmas.{root_same}
-use Rattle.model_store.specs.Opening.{Opens, PassBoxes}
+use Rattle.model_store.specs.Opening.{PassBoxes}
 use Rattle.model_store.specs.Settled.{files_of, HasSameInstance, HasSameRegion}
-use Rattle.store_core.specs.Value.{StoreValue}
 use Rattle.store_files.specs.Regions.{end_of}
 use Rattle.store_open.proofs.CheckedLemmas.{OpensAt}
 use Rattle.store_open.proofs.RewrittenLemmas.{with_boxes}
 use Rattle.store_open.proofs.SyncedMailLemmas.{ends_on, fitted_on, mail_on, mail_there, there_synced}
 use Rattle.store_sweep.proofs.FittedLemmas.{fitted-then}
-use Rattle.store_sweep.specs.Moments.{AreFitted, IsCutToRegions, IsFitted, KeepsWanted, NamesSynced, SameContent}
+use Rattle.store_sweep.specs.Moments.{AreFitted, IsCutToRegions, NamesSynced, SameContent}
 use Rattle.store_sweep.specs.Swept.{EndWithRegions, IsSwept}
 use Rattle.store_sweep.specs.Wanted.{has_box, is_wanted}
 

@@ -3,7 +3,7 @@ use Rattle.std.proofs.Common.{◌≡◌, ◌⊎◌, inl, inr, ℕ, true, false, 
 use Rattle.std.proofs.lemmas.Bool.{cases_Bool, cond-true, cond-false, false≢true}
 use Rattle.std.proofs.lemmas.List.Elements.{All-weaker}
 use Rattle.box_snapshot.specs.Rewrites.{SyncsMail}
-use Rattle.disk_model.proofs.BetweenLemmas.{between-map, between-on, between-then}
+use Rattle.disk_model.proofs.BetweenLemmas.{between-map, between-on}
 use Rattle.disk_model.specs.Disk.{Files, FileState, DiskState, History, Between, IfTold, IsThere, named, no_file, reading}
 use Rattle.disk_model.specs.Name.{IsLogName}
 use Rattle.disk_model.specs.declared.name.FileName.{FileName}
@@ -12,9 +12,8 @@ use Rattle.mdbox_base.specs.declared.entries.InstRow.{InstRow}
 use Rattle.model_meaning.specs.MapMeaning.{MapMeaning, MapRecord}
 use Rattle.model_rewritten.specs.CarriedStore.{CarriesMail}
 use Rattle.model_store.specs.Settled.{files_of, HasSameRegion, HasSameInstance}
-use Rattle.store_sweep.specs.Moments.{AreFitted, IsFitted, KeepsWanted, SameContent}
+use Rattle.store_sweep.specs.Moments.{AreFitted, IsFitted, SameContent}
 use Rattle.store_sweep.specs.Swept.{EndWithRegions}
-use Rattle.store_sweep.specs.Wanted.{is_wanted}
 
 -- ---- one file
 
