@@ -1,5 +1,5 @@
 // All logs that are due are written anew.
-ghost use Rattle.std.specs.Prelude.{◌≡◌, ◌↔◌, Ok, OnOk, IsErrOf, [], false, true, tt};
+ghost use Rattle.std.specs.Prelude.{◌≡◌, ◌↔◌, Ok, OnOk, IsErrOf, [], false, true};
 ghost use Rattle.disk_model.specs.FaultCounts.{NoFault, ChangeFaultCounted};
 ghost use Rattle.store_core.specs.declared.error.StepError.TheVariants as step_error;
 ghost use Rattle.box_snapshot.specs.Due.{NoLogDue};
@@ -23,7 +23,7 @@ pub fn snapshot_due<D: Disk>(store: &mut Store<D>) -> Result<(), StepError>
 
     ensures stopped { IsErrOf result step_error.Stopped ↔ (store.new.stopped ≡ true) }
     ensures fault { ChangeFaultCounted (IsErrOf result step_error.Stopped) (D.faults store.old.disk) (D.faults store.new.disk) }
-    ensures unfailed { OnOk result (NoFault (D.faults store.old.disk) (D.faults store.new.disk)) }
+    ensures unfailed { (IsErrOf result step_error.Stopped → ⊥) → NoFault (D.faults store.old.disk) (D.faults store.new.disk) }
 {
     todo!()
 }
