@@ -227,6 +227,7 @@ impl<D: Disk> Store<D> {
         ensures settled { OnOk result ((lists : Lists) → IsSettledFor lists (D.history self.old.disk) → IsSettledFor lists (D.history self.new.disk)) }
         ensures stored { OnOk result (KeepsStored (D.history self.old.disk) (D.history self.new.disk)) }
         ensures held { OnOk result (IsHeldDraft (D.history self.new.disk) draft.now self.new) }
+        ensures reads { OnOk result ((texts : List (List ℕ)) → Drafts draft.now.log texts (D.history self.old.disk) → Reads draft.now.log texts (D.history self.new.disk)) }
         ensures others { OnOk result (SameButFor draft.now.log.name (D.history self.old.disk) (D.history self.new.disk)) }
         ensures stopped { IsErr result ↔ (self.new.stopped ≡ true) }
         ensures same { self.new ≡ record self.old { disk = self.new.disk; stopped = self.new.stopped } }
@@ -256,6 +257,7 @@ impl<D: Disk> Store<D> {
         ensures taken { OnOk result (self.new.map ≡ map_applied (map_entry.G draft.number draft.generation) self.old.map) }
         ensures indexes { OnOk result (indexes_of self.new.boxes ≡ meanings_with draft.number.0 draft.index.meaning self.old.map.boxes (indexes_of self.old.boxes)) }
         ensures boxes { OnOk result (self.new.boxes ≡ boxes_with draft self.old.boxes) }
+        ensures reads { OnOk result ((texts : List (List ℕ)) → Reads draft.log texts (D.history self.old.disk) → Reads draft.log texts (D.history self.new.disk)) }
         ensures leak { OnOk result ((uid : ℕ) → leak_at uid self.new ≡ leak_at uid self.old + listed_at uid self.old - listed_with draft uid self.old) }
         ensures means { MeansSame self.old.map self.new.map }
         ensures same_indexes { list_numbered self.old draft.number.0 ≡ Some draft.index.meaning → indexes_of self.new.boxes ≡ indexes_of self.old.boxes }
