@@ -1,5 +1,5 @@
 -- What a store and its disk are when logs were written anew.
-use Rattle.std.specs.Prelude.{◌≡◌, ◌⊎◌, ◌+◌, ◌==◌, ℕ, false, List, map, find, if◌then◌else◌, Option, Some}
+use Rattle.std.specs.Prelude.{◌≡◌, ◌⊎◌, ◌+◌, ◌==◌, ℕ, false, List, length, map, find, if◌then◌else◌, Option, Some}
 use Rattle.disk_model.specs.Disk.{DiskState, History, Between, EachImage, Grows, IfTold, IsThere, named}
 use Rattle.disk_model.specs.Name.{IsLogName}
 use Rattle.disk_model.specs.declared.name.FileName.{FileName}
@@ -47,8 +47,8 @@ OnlyLogsInForce store disk = (name : FileName) → IsUnneeded store.map_log.head
 abbrev pub LeavesNoOldLogs : {D : Type 0} → (D → Option History) → StoreValue D → StoreValue D → Type 0
 LeavesNoOldLogs history old new = Between (λ a b. OnlyLogsInForce old a → OnlyLogsInForce new b) (history old.disk) (history new.disk)
 
--- The log of the mailbox with this number was written anew: it is of the next generation, the disk reads an entry for each message
--- and at most one for the next UID, and it means the same. Each other mailbox is as it was.
+-- The log of the mailbox with this number was written anew: it is of the next generation, it has an entry for each message and at
+-- most one for the next UID, and it means the same. Each other mailbox is as it was.
 pub record IsBoxWritten {D : Type 0} (number : ℕ) (history : Option History) (old new : StoreValue D) : Type 0 where
   pub before : OpenBox
   pub now : OpenBox
@@ -57,10 +57,12 @@ pub record IsBoxWritten {D : Type 0} (number : ℕ) (history : Option History) (
   pub number_is : now.number ≡ before.number
   pub generation : now.log.head.generation ≡ before.log.head.generation + 1
   pub means : now.index.meaning ≡ before.index.meaning
+  pub count : now.log.count ≡ length (box_snapshot before.index.meaning)
   pub reads : Reads now.log (map box_text (box_snapshot before.index.meaning)) history
 
--- The map log was written anew: it is of the next generation, and the disk reads an entry for each mailbox, record and sealed file,
--- and one for the highest numbers.
+-- The map log was written anew: it is of the next generation, and has an entry for each mailbox, record and sealed file, and one for
+-- the highest numbers.
 pub record IsMapWritten {D : Type 0} (history : Option History) (old new : StoreValue D) : Type 0 where
   pub generation : new.map_log.head.generation ≡ old.map_log.head.generation + 1
+  pub count : new.map_log.count ≡ length (map_snapshot old.map)
   pub reads : Reads new.map_log (map map_text (map_snapshot old.map)) history

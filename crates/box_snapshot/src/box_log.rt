@@ -25,7 +25,7 @@ pub fn snapshot_box<D: Disk>(store: &mut Store<D>, mailbox: BoxNo) -> Result<(),
     ensures stopped { IsErrOf result step_error.Stopped ↔ (store.new.stopped ≡ true) }
     ensures memory { IsErrOf result step_error.NoMemory → store.new ≡ record store.old { disk = store.new.disk } }
     ensures fault { ChangeFaultCounted (IsErrOf result step_error.Stopped) (D.faults store.old.disk) (D.faults store.new.disk) }
-    ensures unfailed { OnOk result (NoFault (D.faults store.old.disk) (D.faults store.new.disk)) }
+    ensures unfailed { (IsErrOf result step_error.Stopped → ⊥) → NoFault (D.faults store.old.disk) (D.faults store.new.disk) }
 {
     todo!()
 }

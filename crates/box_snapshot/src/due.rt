@@ -17,6 +17,7 @@ const LAST_GENERATION: u32 = 4_294_967_294;
 pub fn box_due<D: Disk>(store: &Store<D>, mailbox: BoxNo) -> bool
     ensures { result ≡ is_due_at mailbox.0 store.now }
 {
+    store.facts();
     match (store.mailbox(mailbox), store.generation_of(mailbox)) {
         (Some(index), Some(generation)) => is_log_due(
             store.box_entries(mailbox),
@@ -32,6 +33,7 @@ pub fn box_due<D: Disk>(store: &Store<D>, mailbox: BoxNo) -> bool
 pub fn map_due<D: Disk>(store: &Store<D>) -> bool
     ensures { result ≡ is_map_due store.now }
 {
+    store.facts();
     let map = store.map();
     let needs = u64::from(map.boxes()) + u64::from(map.rows()) + u64::from(map.sealed()) + 1;
     is_log_due(store.map_entries(), needs, store.map_generation())

@@ -9,4 +9,5 @@ pub use map_log::snapshot_map;
 mod box_log;
 mod due;
 mod due_logs;
+mod map_entries;
 mod map_log;

@@ -1,11 +1,12 @@
 -- A switch to a draft in three steps: its sync, the entry that names it, and the removal of the old log.
 use Rattle.store_core.proofs.Common.{◌⊎◌, inl, inr, ◌≡◌, ◌≢◌, ◌<◌, ◌≤◌, ◌+◌, ◌-◌, ◌==◌, ℕ, Bool, true, false, if◌then◌else◌, List, [], ◌∷◌, map, find, Option, Some, None, All, refl, sym, ◌∙◌, ap, subst, arith, All-head, All-tail, All-cons, All-nil, All-contains, sum_by, count_by, sum_by-cons}
-use Rattle.store_core.proofs.Common.{DiskState, History, IfTold, Between, between-on, SameButFor, FileName, named, each_image-map, OthersAreNamed, BoxEntry, BoxNo, Lists, LogRow, BoxMeaning, rows_after, MapBox, MapRecord, MapMeaning, map_applied, HasItsRecord, IsAccounted, Safe, files_of, Leaves, KeepsStored, StoresMessage}
-use Rattle.store_core.proofs.Common.{IsStore, StoreValue, OpenBox, slice_set, indexes_of, list_numbered, no_file, NamedButFor, option_map, listed_of, number_beside, due_at, leak_at, listed_at, equal_is, ne_eqb, eq-eqb, bit, false≢true}
+use Rattle.store_core.proofs.Common.{FileState, DiskState, History, IfTold, Between, between-on, SameButFor, FileName, named, each_image-map, OthersAreNamed, BoxEntry, BoxNo, Lists, LogRow, BoxMeaning, rows_after, MapBox, MapRecord, MapMeaning, map_applied, HasItsRecord, IsAccounted, Safe, files_of, Leaves, KeepsStored, StoresMessage}
+use Rattle.store_core.proofs.Common.{IsStore, StoreValue, OpenBox, slice_set, indexes_of, list_numbered, no_file, NamedButFor, option_map, listed_of, number_beside, due_at, leak_at, listed_at, equal_is, ne_eqb, eq-eqb, bit, false≢true, cases_Bool, cond-true, cond-false, same_name-apart, same_name-true}
 use Rattle.std.proofs.Common.{Result, Ok, Err, OnOk, IsErr}
 use Rattle.std.specs.List.{AllByRecursion}
 use Rattle.disk_model.proofs.BetweenLemmas.{between-then}
 use Rattle.disk_model.proofs.MomentLemmas.{each_image-then}
+use Rattle.disk_model.specs.Name.{same_name}
 use Rattle.disk_model.specs.declared.name.FileName.TheVariants as file
 use Rattle.mdbox_base.specs.declared.entries.MapEntry.TheVariants as entry
 use Rattle.model_lists.specs.Lists.{ListedMessage}
@@ -195,3 +196,20 @@ pub others_as : (map_log map_name old_log old_name draft : FileName) (old settle
     → Between (AreNamedButFor map_log old_name draft) old new
 others_as map_log map_name old_log old_name draft old settled put new same also first second third =
     others_named map_log old_name draft old settled put new first (subst (λ (n : FileName). SameButFor n settled put) same second) (subst (λ (n : FileName). OthersAreNamed n put new) also (named_but old_log put new third))
+
+-- ---- names
+
+named_firm : (f : FileState) → (named f).is_name_loose ≡ false
+named_firm f = elim (cases_Bool f.is_there) [
+  | inl there ↦ ap (λ (g : FileState). g.is_name_loose) (cond-true f.is_there (record f { is_name_loose = false }) no_file there)
+  | inr gone ↦ ap (λ (g : FileState). g.is_name_loose) (cond-false f.is_there (record f { is_name_loose = false }) no_file gone)
+]
+
+-- where each other file has its name synced, and this one is gone, all names are
+pub names_synced : (name : FileName) (old new : Option History) → NamedButFor name old new → IfTold new (λ now. now name ≡ no_file) → IfTold new (λ now. (other : FileName) → (now other).is_name_loose ≡ false)
+names_synced name None new others gone = subst (λ (h : Option History). IfTold h (λ now. (other : FileName) → (now other).is_name_loose ≡ false)) (sym others) tt
+names_synced name (Some old) None others gone = tt
+names_synced name (Some old) (Some new) others gone = λ other. elim (cases_Bool (same_name other name)) [
+  | inl same ↦ ap (λ (n : FileName). (new.now n).is_name_loose) (same_name-true other name same) ∙ ap (λ (f : FileState). f.is_name_loose) gone
+  | inr apart ↦ ap (λ (f : FileState). f.is_name_loose) (others other (same_name-apart other name apart)) ∙ named_firm (old.now other)
+]

@@ -24,6 +24,7 @@ use Rattle.model_store.specs.Stands.{AreListed, HasLog}
 use Rattle.model_rewritten.specs.Switched.{list_switched, log_switched}
 use Rattle.model_rewritten.proofs.SwitchLemmas.{leaves_switched, same_append, switch_append}
 use Rattle.model_rewritten.proofs.SwitchOpenLemmas.{good_switched, means_switched, opens_switched}
+use Rattle.store_core.specs.Value.{list_numbered}
 use Rattle.store_core.specs.Drafts.{BoxDraftValue, GivesLists, IsHeldDraft, IsNewer, listed_with, meanings_with}
 use Rattle.store_core.proofs.BoxAppendLemmas.{disk_more, is_log, root_stays, store_sound}
 use Rattle.store_core.proofs.BoxCrashLemmas.{ReadsImage}
@@ -36,7 +37,7 @@ use Rattle.store_core.proofs.MapAppendLemmas.{boxes_read}
 use Rattle.store_core.proofs.MapCrashLemmas.{held_map}
 use Rattle.store_core.proofs.NamingLemmas.{Appends, leaves_by, settled_by}
 use Rattle.store_core.proofs.PickingLemmas.{reads_other}
-use Rattle.store_core.proofs.ReplacedLogLemmas.{covered_counted, found_set, logs_set, meanings_are, meanings_set, read_set, refs_counted}
+use Rattle.store_core.proofs.ReplacedLogLemmas.{covered_counted, found_set, logs_set, meanings_are, meanings_set, meanings_stay, read_set, refs_counted}
 use Rattle.store_core.proofs.UnneededLogLemmas.{map_known}
 
 -- the entry that names a draft
@@ -205,6 +206,9 @@ runs_then old new v disk draft b place log c same others added =
 pub indexes_then : {D : Type 0} → (h : Option History) (v : StoreValue D) (draft : BoxDraftValue) (b : OpenBox) (place : ℕ) → CanSwitch h v draft b place → indexes_of (slice_set v.boxes place b) ≡ meanings_with draft.number.0 draft.index.meaning v.map.boxes (indexes_of v.boxes)
 indexes_then h v draft b place c =
     meanings_set v.map.store draft.number.0 place b b v.map.boxes v.boxes (store_sound h v c.store).boxes_rising c.store.box_logs c.below c.at ∙ ap (λ (i : _). meanings_with draft.number.0 i.meaning v.map.boxes (indexes_of v.boxes)) c.index
+
+pub indexes_stay : {D : Type 0} → (h : Option History) (v : StoreValue D) (draft : BoxDraftValue) (b : OpenBox) (place : ℕ) → CanSwitch h v draft b place → list_numbered v draft.number.0 ≡ Some draft.index.meaning → indexes_of (slice_set v.boxes place b) ≡ indexes_of v.boxes
+indexes_stay h v draft b place c stays = indexes_then h v draft b place c ∙ meanings_stay draft.number.0 draft.index.meaning v.map.boxes (indexes_of v.boxes) (store_sound h v c.store).boxes_rising stays
 
 pub store_then : {D : Type 0} → (old new : Option History) (v : StoreValue D) (disk : D) (draft : BoxDraftValue) (b : OpenBox) (place : ℕ) (log : LogState) → CanSwitch old v draft b place → IsSameLog v.map_log log → SameButFor v.map_log.name old new
     → ((texts : List (List ℕ)) → Reads v.map_log texts old → Reads log (texts ++ map_text (switching draft) ∷ []) new) → IsStore new (with_draft v disk log draft b place)
@@ -384,6 +388,13 @@ pub leaves_seen : {D : Type 0} → (H : D → Option History) (v now : StoreValu
 leaves_seen H v now draft seen new is same left =
     subst (λ (d : BoxDraftValue). (lists after : Lists) → GivesLists d now (H now.disk) lists after → IsSettledFor lists (H now.disk) → Leaves lists after (H now.disk) new) same
     (subst (λ (x : StoreValue _). (lists after : Lists) → GivesLists draft x (H x.disk) lists after → IsSettledFor lists (H x.disk) → Leaves lists after (H x.disk) new) is left)
+
+pub indexes_seen : {D : Type 0} → (v now : StoreValue D) (draft seen : BoxDraftValue) (b : OpenBox) (place : ℕ) → v ≡ now → draft ≡ seen
+    → (list_numbered v draft.number.0 ≡ Some draft.index.meaning → indexes_of (slice_set v.boxes place b) ≡ indexes_of v.boxes)
+    → list_numbered now seen.number.0 ≡ Some seen.index.meaning → indexes_of (slice_set v.boxes place b) ≡ indexes_of now.boxes
+indexes_seen v now draft seen b place is same stay =
+    subst (λ (d : BoxDraftValue). list_numbered now d.number.0 ≡ Some d.index.meaning → indexes_of (slice_set v.boxes place b) ≡ indexes_of now.boxes) same
+    (subst (λ (x : StoreValue _). list_numbered x draft.number.0 ≡ Some draft.index.meaning → indexes_of (slice_set v.boxes place b) ≡ indexes_of x.boxes) is stay)
 
 pub settled_seen : {D : Type 0} → (H : D → Option History) (v now : StoreValue D) (draft seen : BoxDraftValue) (new : Option History) → v ≡ now → draft ≡ seen
     → ((lists after : Lists) → GivesLists draft v (H v.disk) lists after → IsSettledFor lists (H v.disk) → IsSettledFor after new)

@@ -1,5 +1,5 @@
 -- Mailboxes of which one has another log, in a new generation: their open logs, what these mean, and how often messages are listed.
-use Rattle.store_core.proofs.Common.{◌≡◌, ◌≢◌, ◌<◌, ◌≤◌, ◌==◌, ℕ, Bool, true, false, zero, suc, if◌then◌else◌, List, [], ◌∷◌, map, length, slice_set, slice_index_or, find, Option, Some, None, All, AllPairs, refl, sym, ◌∙◌, ap, subst, arith, All-head, All-tail, Files, History}
+use Rattle.store_core.proofs.Common.{inl, inr, ◌≡◌, ◌≢◌, ◌<◌, ◌≤◌, ◌==◌, ℕ, Bool, true, false, cases_Bool, false≢true, zero, suc, if◌then◌else◌, List, [], ◌∷◌, map, length, slice_set, slice_index_or, find, Option, Some, None, All, AllPairs, refl, sym, ◌∙◌, ap, subst, arith, All-head, All-tail, Files, History}
 use Rattle.store_core.proofs.Common.{BoxEntry, MapEntry, BoxNo, Lists, box_text, BoxMeaning, box_meaning, rows_after, MapBox, MapRecord, MapMeaning, HasItsRecord, IsCounted, listed_of, Reads, map_meaning, All-cons, All-contains, bytes_eq, head_of, HasBox, equal_is, pairs_head, pairs_tail, cond-true, cond-false, map_applied, IsUnnamed, AreBoxLogs, ReadBoxLogs, CoverDues, OpenBox, indexes_of}
 use Rattle.std.specs.Option.{option_map_or}
 use Rattle.std.proofs.lemmas.Bool.{eq-eqb, ne_eqb}
@@ -13,6 +13,7 @@ use Rattle.model_meaning.specs.MapMeaning.{box_at, box_changed, count_of, record
 use Rattle.model_meaning.specs.Sound.{IsSoundMap}
 use Rattle.model_octets.proofs.PairLemmas.{IsOnly}
 use Rattle.model_octets.proofs.SearchLemmas.{found_one, text_is}
+use Rattle.model_store.specs.Listing.{meaning_numbered}
 use Rattle.model_store.proofs.OpeningSafeLemmas.{counted, passed_by, unlisted}
 use Rattle.model_store.specs.Opening.{PassBoxes, PassesBox}
 use Rattle.model_store.specs.Stands.{AreListed, AreMailboxes}
@@ -68,6 +69,23 @@ meanings_set store k (suc place) d b (m ∷ ms) (o ∷ os) rising a below is =
     let later = number_later store k place d ms os m (pairs_head Rising m ms rising) a.3 (omega (arith, below)) is in
     ap (λ (xs : List BoxMeaning). o.index.meaning ∷ xs) rest
     ∙ sym (ap (λ (t : Bool). (if t then b.index.meaning else o.index.meaning) ∷ meanings_with k b.index.meaning ms (indexes_of os)) (ne_eqb k m.number (λ (e : k ≡ m.number). omega (arith, later, e))))
+
+-- a log that means what the one in force means leaves all meanings as they are
+pub meanings_stay : (k : ℕ) (m : BoxMeaning) (mailboxes : List MapBox) (olds : List BoxMeaning) → AllPairs Rising mailboxes → meaning_numbered k mailboxes olds ≡ Some m → meanings_with k m mailboxes olds ≡ olds
+meanings_stay k m [] olds rising is = refl
+meanings_stay k m (b ∷ bs) [] rising is = refl
+meanings_stay k m (b ∷ bs) (o ∷ os) rising is = elim (cases_Bool (b.number == k)) [
+  | inl here ↦
+      let same : b.number ≡ k = equal_is b.number k here in
+      let found : Some o ≡ Some m = sym (ap (λ (t : Bool). if t then Some o else meaning_numbered k bs os) here) ∙ is in
+      let one : o ≡ m = cc found in
+      ap (λ (t : Bool). (if t then m else o) ∷ meanings_with k m bs os) (eq-eqb k b.number (sym same))
+      ∙ ap (λ (xs : List BoxMeaning). m ∷ xs) (no_meaning k m b bs os (pairs_head Rising b bs rising) same) ∙ ap (λ (x : BoxMeaning). x ∷ os) (sym one)
+  | inr apart ↦
+      let rest : meaning_numbered k bs os ≡ Some m = sym (ap (λ (t : Bool). if t then Some o else meaning_numbered k bs os) apart) ∙ is in
+      ap (λ (t : Bool). (if t then m else o) ∷ meanings_with k m bs os) (ne_eqb k b.number (λ (e : k ≡ b.number). absurd (false≢true (sym apart ∙ eq-eqb b.number k (sym e)))))
+      ∙ ap (λ (xs : List BoxMeaning). o ∷ xs) (meanings_stay k m bs os (pairs_tail Rising b bs rising) rest)
+]
 
 -- ---- the open logs
 

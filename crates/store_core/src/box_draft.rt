@@ -71,6 +71,7 @@ pub(crate) fn extend_in<D: Disk>(
     ensures others_stay { (IsErrOf result step_error.NoMemory → ⊥) → EachImage (λ _ image. OthersStay open_box.old.log.name (D.history disk.old) image) (D.history disk.old) (D.history disk.new) }
     ensures grows { Grows (D.history disk.old) (D.history disk.new) }
     ensures drafted { OnOk result ((texts : List (List ℕ)) → Drafts open_box.old.log texts (D.history disk.old) → Drafts open_box.new.log (texts ++ map box_text entries.now) (D.history disk.new)) }
+    ensures counted { OnOk result (open_box.new.log.count ≡ open_box.old.log.count + length entries.now) }
     ensures others { OnOk result (SameButFor open_box.old.log.name (D.history disk.old) (D.history disk.new)) }
     ensures taken { OnOk result (open_box.new.index.meaning ≡ fold (λ m e. box_applied e m) open_box.old.index.meaning entries.now) }
     ensures memory { IsErrOf result step_error.NoMemory → (open_box.new ≡ open_box.old) × (disk.new ≡ disk.old) }

@@ -67,6 +67,7 @@ pub(crate) fn extend_map_in<D: Disk>(
     ensures others_stay { (IsErrOf result step_error.NoMemory → ⊥) → EachImage (λ _ image. OthersStay log.old.name (D.history disk.old) image) (D.history disk.old) (D.history disk.new) }
     ensures grows { Grows (D.history disk.old) (D.history disk.new) }
     ensures drafted { OnOk result ((texts : List (List ℕ)) → Drafts log.old texts (D.history disk.old) → Drafts log.new (texts ++ map map_text entries.now) (D.history disk.new)) }
+    ensures counted { OnOk result (log.new.count ≡ log.old.count + length entries.now) }
     ensures others { OnOk result (SameButFor log.old.name (D.history disk.old) (D.history disk.new)) }
     ensures taken { OnOk result (index.new.meaning ≡ fold (λ m e. map_applied e m) index.old.meaning entries.now) }
     ensures memory { IsErrOf result step_error.NoMemory → (log.new ≡ log.old) × (index.new ≡ index.old) × (disk.new ≡ disk.old) }

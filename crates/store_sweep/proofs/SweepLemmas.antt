@@ -5,15 +5,17 @@ use Rattle.std.specs.List.{AllZip}
 use Rattle.std.proofs.lemmas.List.Elements.{All-head, All-tail, All-weaker}
 use Rattle.std.proofs.lemmas.Bool.{cases_Bool, eqb-true, cond-true, cond-false}
 use Rattle.std.proofs.lemmas.Option.{same_Some}
-use Rattle.disk_model.specs.Disk.{Files, FileState, DiskState, History, IfTold, IsThere, IsImage, EachImage, reading}
+use Rattle.disk_model.specs.Disk.{Files, FileState, DiskState, History, IfTold, IsThere, IsImage, EachImage, reading, Between}
 use Rattle.disk_model.specs.declared.name.FileName.{FileName}
 use Rattle.disk_model.specs.declared.name.FileName.TheVariants as file
+use Rattle.disk_model.proofs.BetweenLemmas.{between-map}
 use Rattle.disk_model.proofs.MomentLemmas.{each_image-map}
 use Rattle.model_lists.specs.Lists.{Lists}
 use Rattle.model_store.specs.Safe.{Safe}
 use Rattle.map_index.specs.Shown.{region_end}
 use Rattle.model_meaning.specs.MapMeaning.{MapRecord, MapMeaning}
 use Rattle.model_store.specs.Settled.{files_of, IsSameRegion, IsSettled, IsSettledFor}
+use Rattle.model_rewritten.specs.CarriedStore.{CarriesMail}
 use Rattle.model_store.specs.Carrying.{CarryOver}
 use Rattle.model_store.proofs.CarryingLemmas.{each_name}
 use Rattle.gate_log.specs.State.{LogState, InspectedLog}
@@ -57,6 +59,13 @@ pub files_carry : (g : ℕ) (m : MapMeaning) (old new : Option History) → IfTo
 files_carry g m None new opens images keeps = untold g m new images
 files_carry g m (Some old) None opens images keeps = absurd (keeps.told tt)
 files_carry g m (Some old) (Some new) opens images keeps = each_name g m (files_of old.now) (files_of new.now) (keeps.reads (files_of old.now) (reads_opened g m old.now opens))
+
+-- the regions and instances of what is carried over
+mail_of : (g : ℕ) (m : MapMeaning) (a b : Files) → CarryOver g m a b → CarriesMail m a b
+mail_of g m a b carry = record { regions = carry.regions; instances = carry.instances }
+
+pub mail_carries : (g : ℕ) (m : MapMeaning) (old new : Option History) → FilesCarry g m old new → Between (λ was now. CarriesMail m (files_of was) (files_of now)) old new
+mail_carries g m old new carry = between-map _ _ old new (λ a b. mail_of g m (files_of a) (files_of b)) carry
 
 -- ---- the logs
 

@@ -3,6 +3,7 @@ ghost use Rattle.std.specs.Prelude.{◌≡◌, ◌↔◌, ◌≤◌, ◌+◌, �
 ghost use Rattle.std.specs.List.{AllByRecursion};
 ghost use Rattle.disk_model.specs.Disk.{Between, EachImage, Grows, IfTold, OthersStay, SameButFor, no_file};
 ghost use Rattle.disk_model.specs.FaultCounts.{NoFault, ChangeFaultCounted};
+ghost use Rattle.disk_model.specs.declared.name.FileName.{FileName};
 ghost use Rattle.disk_model.specs.declared.name.FileName.TheVariants as file;
 ghost use Rattle.gate_log.specs.Log.{Drafts, Holds, NamedButFor, Reads};
 ghost use Rattle.gate_log.specs.State.{IsSameLog};
@@ -58,6 +59,7 @@ impl<D: Disk> Store<D> {
         ensures empty { IfOk result (λ draft. draft.index.meaning ≡ box_meaning []) }
         ensures draft { IfOk result (λ draft. IsBoxDraft (D.history self.new.disk) draft self.new) }
         ensures nothing { IfOk result (λ draft. Drafts draft.log [] (D.history self.new.disk)) }
+        ensures counted { IfOk result (λ draft. draft.log.count ≡ 0) }
         ensures others { OnOk result (NamedButFor (file.Box mailbox.0 generation) (D.history self.old.disk) (D.history self.new.disk)) }
 
         ensures stopped { IsErrOf result step_error.Stopped ↔ (self.new.stopped ≡ true) }
@@ -116,6 +118,7 @@ impl<D: Disk> Store<D> {
         ensures draft { OnOk result (IsBoxDraft (D.history self.new.disk) draft.new self.new) }
         ensures taken { OnOk result (draft.new.index.meaning ≡ fold (λ m e. box_applied e m) draft.old.index.meaning entries.now) }
         ensures added { OnOk result ((texts : List (List ℕ)) → Drafts draft.old.log texts (D.history self.old.disk) → Drafts draft.new.log (texts ++ map box_text entries.now) (D.history self.new.disk)) }
+        ensures counted { OnOk result (draft.new.log.count ≡ draft.old.log.count + length entries.now) }
         ensures number { (draft.new.number ≡ draft.old.number) × (draft.new.generation ≡ draft.old.generation) }
         ensures others { OnOk result (SameButFor draft.old.log.name (D.history self.old.disk) (D.history self.new.disk)) }
 
@@ -163,19 +166,22 @@ impl<D: Disk> Store<D> {
         ensures stored { OnOk result (KeepsStored (D.history self.old.disk) (D.history self.new.disk)) }
 
         // After Ok the map means what it did, with the entry, and the mailbox's log is the draft. But for generations the map
-        // means the same, whatever is answered.
+        // means the same, whatever is answered, and where the draft means what the log in force means, so do all mailboxes.
         ensures taken { OnOk result (self.new.map ≡ map_applied (map_entry.G draft.number draft.generation) self.old.map) }
         ensures indexes { OnOk result (indexes_of self.new.boxes ≡ meanings_with draft.number.0 draft.index.meaning self.old.map.boxes (indexes_of self.old.boxes)) }
         ensures boxes { OnOk result (self.new.boxes ≡ boxes_with draft self.old.boxes) }
         ensures reads { OnOk result ((texts : List (List ℕ)) → Drafts draft.log texts (D.history self.old.disk) → Reads draft.log texts (D.history self.new.disk)) }
         ensures means { MeansSame self.old.map self.new.map }
+        ensures same_indexes { list_numbered self.old draft.number.0 ≡ Some draft.index.meaning → indexes_of self.new.boxes ≡ indexes_of self.old.boxes }
+        ensures same_log { IsSameLog self.old.map_log self.new.map_log }
         ensures due { (uid : ℕ) → due_at uid self.new ≡ due_at uid self.old }
         ensures leak { OnOk result ((uid : ℕ) → leak_at uid self.new ≡ leak_at uid self.old + listed_at uid self.old - listed_with draft uid self.old) }
 
-        // The old log is removed, and no crash leaves it. Each file but this, the draft and the map log is as it was, with its
-        // name synced.
+        // The old log is removed, and no crash leaves it. Each file but this, the draft and the map log is as it was. All names are
+        // synced.
         ensures gone { OnOk result ((box : MapBox) → box_at self.old.map draft.number.0 ≡ Some box → IfTold (D.history self.new.disk) (λ now. now (file.Box box.number box.generation) ≡ no_file)) }
         ensures others { OnOk result ((box : MapBox) → box_at self.old.map draft.number.0 ≡ Some box → Between (AreNamedButFor self.old.map_log.name (file.Box box.number box.generation) draft.log.name) (D.history self.old.disk) (D.history self.new.disk)) }
+        ensures names { OnOk result (IfTold (D.history self.new.disk) (λ now. (name : FileName) → (now name).is_name_loose ≡ false)) }
 
         ensures stopped { IsErrOf result step_error.Stopped ↔ (self.new.stopped ≡ true) }
         ensures memory { IsErrOf result step_error.NoMemory → ⊥ }
@@ -252,6 +258,8 @@ impl<D: Disk> Store<D> {
         ensures boxes { OnOk result (self.new.boxes ≡ boxes_with draft self.old.boxes) }
         ensures leak { OnOk result ((uid : ℕ) → leak_at uid self.new ≡ leak_at uid self.old + listed_at uid self.old - listed_with draft uid self.old) }
         ensures means { MeansSame self.old.map self.new.map }
+        ensures same_indexes { list_numbered self.old draft.number.0 ≡ Some draft.index.meaning → indexes_of self.new.boxes ≡ indexes_of self.old.boxes }
+        ensures same_log { IsSameLog self.old.map_log self.new.map_log }
         ensures others { OnOk result (SameButFor self.old.map_log.name (D.history self.old.disk) (D.history self.new.disk)) }
         ensures untaken { IsErr result → (self.new.map ≡ self.old.map) × (self.new.boxes ≡ self.old.boxes) }
         ensures stopped { IsErr result ↔ (self.new.stopped ≡ true) }

@@ -3,6 +3,7 @@ ghost use Rattle.std.specs.Prelude.{◌≡◌, ◌≢◌, ◌↔◌, ◌<◌, �
 ghost use Rattle.std.specs.List.{AllByRecursion};
 ghost use Rattle.disk_model.specs.Disk.{Between, EachImage, Grows, IfTold, OthersStay, SameButFor, no_file};
 ghost use Rattle.disk_model.specs.FaultCounts.{NoFault, ChangeFaultCounted};
+ghost use Rattle.disk_model.specs.declared.name.FileName.{FileName};
 ghost use Rattle.disk_model.specs.declared.name.FileName.TheVariants as file;
 ghost use Rattle.gate_log.specs.Log.{Drafts, Holds, NamedButFor, Reads};
 ghost use Rattle.gate_log.specs.State.{IsSameLog};
@@ -62,6 +63,7 @@ impl<D: Disk> Store<D> {
         ensures empty { IfOk result (λ draft. draft.map.meaning ≡ map_meaning self.old.map.store []) }
         ensures draft { IfOk result (λ draft. IsMapDraft (D.history self.new.disk) draft self.new) }
         ensures nothing { IfOk result (λ draft. Drafts draft.log [] (D.history self.new.disk)) }
+        ensures counted { IfOk result (λ draft. draft.log.count ≡ 0) }
         ensures others { IfOk result (λ draft. NamedButFor draft.log.name (D.history self.old.disk) (D.history self.new.disk)) }
 
         ensures stopped { IsErrOf result step_error.Stopped ↔ (self.new.stopped ≡ true) }
@@ -116,6 +118,7 @@ impl<D: Disk> Store<D> {
         ensures draft { OnOk result (IsMapDraft (D.history self.new.disk) draft.new self.new) }
         ensures taken { OnOk result (draft.new.map.meaning ≡ fold (λ m e. map_applied e m) draft.old.map.meaning entries.now) }
         ensures added { OnOk result ((texts : List (List ℕ)) → Drafts draft.old.log texts (D.history self.old.disk) → Drafts draft.new.log (texts ++ map map_text entries.now) (D.history self.new.disk)) }
+        ensures counted { OnOk result (draft.new.log.count ≡ draft.old.log.count + length entries.now) }
         ensures number { draft.new.generation ≡ draft.old.generation }
         ensures others { OnOk result (SameButFor draft.old.log.name (D.history self.old.disk) (D.history self.new.disk)) }
 
@@ -157,11 +160,12 @@ impl<D: Disk> Store<D> {
         ensures stored { OnOk result (KeepsStored (D.history self.old.disk) (D.history self.new.disk)) }
 
         // After Ok the map log is the draft's, and the old one is removed, and no crash leaves it. Each file but this, the
-        // draft and the root log is as it was, with its name synced.
+        // draft and the root log is as it was. All names are synced.
         ensures log { OnOk result (self.new.map_log ≡ draft.log) }
         ensures reads { OnOk result ((texts : List (List ℕ)) → Drafts draft.log texts (D.history self.old.disk) → Reads draft.log texts (D.history self.new.disk)) }
         ensures gone { OnOk result (IfTold (D.history self.new.disk) (λ now. now self.old.map_log.name ≡ no_file)) }
         ensures others { OnOk result (Between (AreNamedButFor self.old.root_log.name self.old.map_log.name draft.log.name) (D.history self.old.disk) (D.history self.new.disk)) }
+        ensures names { OnOk result (IfTold (D.history self.new.disk) (λ now. (name : FileName) → (now name).is_name_loose ≡ false)) }
 
         ensures stopped { IsErrOf result step_error.Stopped ↔ (self.new.stopped ≡ true) }
         ensures memory { IsErrOf result step_error.NoMemory → ⊥ }

@@ -1,6 +1,6 @@
 use Rattle.std.proofs.Common.{◌∷◌, Option}
 use Rattle.store_sweep.proofs.SweepStepLemmas.{images_then, keeps_then}
-use Rattle.store_sweep.proofs.SweepLemmas.{safe_images, settled_after, files_carry, opened_root, opened_map, opened_boxes, end_with_regions}
+use Rattle.store_sweep.proofs.SweepLemmas.{safe_images, settled_after, files_carry, mail_carries, opened_root, opened_map, opened_boxes, end_with_regions}
 use Rattle.store_sweep.specs.Repaired.{is_outside}
 use Rattle.store_sweep.proofs.LogsInForceLemmas.{strays_stay, mail_outside}
 use Rattle.store_sweep.proofs.FittedLemmas.{fitted-then, fitted-mail, kept-then, kept-there, names-since}
@@ -80,7 +80,7 @@ returns-clause-swept g c =
     let images = both_images g at _ c.in_ok-clear.ensures.images in
     let keeps = both_keep g at _ (c.in_ok-clear.ensures.keeps (λ err. absurd (false≢true err))) in
     record {
-      reads = files_carry c.args.checked.generation c.args.checked.map.meaning _ _ c.requires.opened images keeps;
+      reads = mail_carries c.args.checked.generation c.args.checked.map.meaning _ _ (files_carry c.args.checked.generation c.args.checked.map.meaning _ _ c.requires.opened images keeps);
       only = c.in_ok-clear.ensures.gone;
       kept = kept-then c.args.checked.generation c.args.checked.map.meaning _ _ _ (kept-there c.args.checked.generation c.args.checked.map.meaning _ _ c.in_ok-root_log.ensures.there) c.in_ok-clear.ensures.kept;
       mail = fitted-then _ _ _ _

@@ -7,7 +7,7 @@ use Rattle.store_core.proofs.DraftSwitchLemmas.{leak_then}
 use Rattle.store_core.proofs.KnownInstanceLemmas.{instances_changed}
 use Rattle.store_core.proofs.MailStayLemmas.{map_log_kept}
 use Rattle.store_core.proofs.NamingLemmas.{stored_named}
-use Rattle.store_core.proofs.PutInForceLemmas.{can_switch, draft_of, fits_now, indexes_then, leaves_seen, leaves_then, log_then, must_be_there, room_then, same_means, settled_seen, settled_then, store_put}
+use Rattle.store_core.proofs.PutInForceLemmas.{can_switch, draft_of, fits_now, indexes_seen, indexes_stay, indexes_then, leaves_seen, leaves_then, log_then, must_be_there, room_then, same_means, settled_seen, settled_then, store_put}
 use Rattle.store_core.proofs.ReplacedLogLemmas.{unnamed_then}
 use Rattle.store_core.proofs.store.Store.put_in_force.Goals as goal
 
@@ -87,3 +87,8 @@ returns-in-Ok-clause-leak g c = λ uid.
     let can = can_switch g.D.Disk.history _ c.args.self.now c.draft.inside.open_box c.draft.inside.generation c.args.draft c.deref.result.now c.in-Some.place c.self.invariant.1 c.self.view_is c.draft.view_is c.requires.running c.requires.held c.requires.named c.requires.counts c.deref.ensures.value c.in-Some.ensures.some in
     leak_then g.D.Disk.history _ c.args.self.now (record c.args.self.now { map = c.apply_generation.new.map.meaning; boxes = slice_set c.self.inside.boxes.items c.in-Some.place c.draft.inside.open_box; dues = c.self.inside.dues.items })
     (draft_of c.draft.inside.open_box c.draft.inside.generation) c.args.draft c.draft.inside.open_box c.in-Some.place uid c.self.view_is c.draft.view_is can c.apply_generation.ensures refl refl
+
+pub returns-in-Ok-clause-same_indexes : goal.returns-in-Ok-clause-same_indexes
+returns-in-Ok-clause-same_indexes g c =
+    let can = can_switch g.D.Disk.history _ c.args.self.now c.draft.inside.open_box c.draft.inside.generation c.args.draft c.deref.result.now c.in-Some.place c.self.invariant.1 c.self.view_is c.draft.view_is c.requires.running c.requires.held c.requires.named c.requires.counts c.deref.ensures.value c.in-Some.ensures.some in
+    indexes_seen _ c.args.self.now (draft_of c.draft.inside.open_box c.draft.inside.generation) c.args.draft c.draft.inside.open_box c.in-Some.place c.self.view_is c.draft.view_is (indexes_stay _ _ (draft_of c.draft.inside.open_box c.draft.inside.generation) c.draft.inside.open_box c.in-Some.place can)

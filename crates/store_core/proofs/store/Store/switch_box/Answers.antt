@@ -3,7 +3,7 @@ use Rattle.disk_model.specs.declared.name.FileName.TheVariants as file
 use Rattle.model_kept.proofs.KeptLemmas.{kept_then}
 use Rattle.model_rewritten.specs.Switched.{list_switched}
 use Rattle.store_core.specs.Drafts.{listed_with}
-use Rattle.store_core.proofs.DraftSwitchLemmas.{gives_messages, gives_same, gone_as, leaves_first, leaves_last, leaves_only, not_ok, old_name, old_out, others_as, stored_on}
+use Rattle.store_core.proofs.DraftSwitchLemmas.{gives_messages, gives_same, gone_as, leaves_first, leaves_last, leaves_only, names_synced, not_ok, old_name, old_out, others_as, stored_on}
 use Rattle.store_core.proofs.store.Store.switch_box.Goals as goal
 
 pub returns-in_err-settle_draft-clause-any_moment : goal.returns-in_err-settle_draft-clause-any_moment
@@ -92,3 +92,6 @@ returns-clause-others g c = λ box found.
     (ap (λ (v : StoreValue _). v.map_log.name) c.settle_draft.ensures.same) (old_name c.args.self.now.map c.args.draft.number.0 c.draft.inside.open_box.number.0 c.in-Some.generation box (ap (λ d. d.number.0) c.draft.view_is) found (sym c.in-Some.is ∙ c.generation_of.ensures))
     c.in_ok-settle_draft.ensures.others
     c.in_ok-put_in_force.ensures.others c.in_ok-drop_log.ensures.others
+
+pub returns-clause-names : goal.returns-clause-names
+returns-clause-names g c = names_synced (file.Box c.draft.inside.open_box.number.0 c.in-Some.generation) _ _ c.in_ok-drop_log.ensures.others c.in_ok-drop_log.ensures.gone

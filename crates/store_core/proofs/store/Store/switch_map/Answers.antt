@@ -1,7 +1,7 @@
 use Rattle.store_core.proofs.Common.{sym, ◌∙◌, ap, LogState, StoreValue}
 use Rattle.disk_model.specs.declared.name.FileName.TheVariants as file
 use Rattle.model_kept.proofs.KeptLemmas.{kept_then}
-use Rattle.store_core.proofs.DraftSwitchLemmas.{gone_as, leaves_first, others_as, stored_on}
+use Rattle.store_core.proofs.DraftSwitchLemmas.{gone_as, leaves_first, names_synced, others_as, stored_on}
 use Rattle.store_core.proofs.store.Store.switch_map.Goals as goal
 
 pub returns-in_err-name_map-clause-any_moment : goal.returns-in_err-name_map-clause-any_moment
@@ -45,3 +45,6 @@ pub returns-clause-others : goal.returns-clause-others
 returns-clause-others g c =
     others_as c.args.self.now.root_log.name c.settle_map.new.self.root_log.name (file.Map c.map_generation-generation.result) c.args.self.now.map_log.name c.args.draft.log.name _ _ _ _
     (ap (λ (v : StoreValue _). v.root_log.name) c.settle_map.ensures.same) (sym c.map_generation-generation.ensures) c.in_ok-settle_map.ensures.others c.in_ok-name_map.ensures.others c.in_ok-drop_map.ensures.others
+
+pub returns-clause-names : goal.returns-clause-names
+returns-clause-names g c = names_synced (file.Map c.map_generation-generation.result) _ _ c.in_ok-drop_map.ensures.others c.in_ok-drop_map.ensures.gone
