@@ -1,6 +1,9 @@
 mod DueLemmas
 mod DueLogsLemmas
 mod MapEntryLemmas
+mod MapFillLemmas
 mod MapGroupLemmas
+mod MapKnownLemmas
+mod MapSnapshotLemmas
 mod OpenAgainLemmas
 pub mod RewritesLemmas
