@@ -14,7 +14,7 @@ ghost use Rattle.store_files.specs.Found.{IsFoundFiles};
 ghost use Rattle.store_instances.specs.FoundInstances.{IsFoundInstances};
 ghost use Rattle.box_snapshot.specs.Due.{NoLogDue};
 ghost use Rattle.store_open.specs.Making.{IdleUnless};
-ghost use Rattle.store_open.specs.Opened.{Opening, IsOpenedAs, StoreCarries, KeepsOpenedMail, IsClosedWell, IsOpeningError, IsFaulted, disk_of};
+ghost use Rattle.store_open.specs.Opened.{Opening, IsOpenedAs, StoreCarries, KeepsOpenedMail, IsClosedWell, HasNoLogDue, IsOpeningError, IsFaulted, disk_of};
 ghost use Rattle.store_open.specs.Rewritten.{WritesDueLogs};
 ghost use Rattle.store_sweep.specs.Moments.{NoFailedChange, IdleIf};
 ghost use Rattle.store_sweep.specs.Swept.{IsSwept};
@@ -67,7 +67,7 @@ pub fn open_store<D: Disk>(alloc: Global, disk: D, lanes: u32) -> Result<Store<D
     ensures shows { IfOk result (λ store. (lists : Lists) → IsSettledFor lists (D.history disk) → ShowLists store.map.boxes (indexes_of store.boxes) lists) }
 
     // Whatever is answered, where no change failed a settled disk is settled for the same lists again, and of any disk the store
-    // opens again, with logs that mean the same and the same mail.
+    // opens again, with logs that mean the same and the same mail; where no log is due, with all that the store reads.
     ensures settled_again { NoFailedChange (IsFaulted result) (D.faults disk) (D.faults (disk_of result)) → (lists : Lists) → IsSettledFor lists (D.history disk) → IsSettledFor lists (D.history (disk_of result)) }
     ensures carried { NoFailedChange (IsFaulted result) (D.faults disk) (D.faults (disk_of result)) → StoreCarries (D.history disk) (D.history (disk_of result)) }
 
@@ -88,6 +88,9 @@ pub fn open_store<D: Disk>(alloc: Global, disk: D, lanes: u32) -> Result<Store<D
 
     // A refusal for another cause than a failing device or want of memory leaves the disk as it is.
     ensures idle { IfErr result (λ refused. (refused.error ≡ OpenError.DiskFault → ⊥) → (refused.error ≡ OpenError.NoMemory → ⊥) → IsIdle (D.history disk) (D.history refused.disk)) }
+
+    // Nor is anything changed out of memory, where no log of a store that opens is due.
+    ensures memory { IfErr result (λ refused. refused.error ≡ OpenError.NoMemory → IdleIf HasNoLogDue (D.history disk) (D.history refused.disk)) }
 
     // Whatever is answered, nothing changes where the files don't open.
     ensures untouched { IdleUnless Opening (D.history disk) (D.history (disk_of result)) }
