@@ -52,9 +52,9 @@ abbrev pub StaysSettled : Option History → Option History → Type 0
 StaysSettled old new = (lists : Lists) → IsSettledFor lists old → IsSettledFor lists new
 
 -- The store was not opened. Each crash image of a settled disk is safe for its lists; unless a change failed, it is settled
--- for them again, and the store opens again with logs that mean the same and the same mail. At each moment storage files and
--- instances stayed. A store that was closed well was left as it is, and so was every disk unless the device failed, or the memory
--- wasn't there and a log was due to be written anew.
+-- for them again, and the store opens again with logs that mean the same and the same mail, with all that was read where no log was
+-- due to be written anew. At each moment storage files and instances stayed. A store that was closed well was left as it is, and so
+-- was every disk unless the device failed, or there was no memory and a log was due.
 pub record IsUnopened (why : OpenError) (old new : Option History) (began now : Faults) : Type 0 where
   pub cause : IsOpeningError old why
   pub idle : (why ≡ error.DiskFault → ⊥) → (why ≡ error.NoMemory → ⊥) → IsIdle old new

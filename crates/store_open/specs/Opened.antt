@@ -51,11 +51,15 @@ pub record AreUndue (generation : ℕ) (m : MapMeaning) (entries : List MapEntry
 abbrev pub HasNoLogDue : DiskState → Type 0
 HasNoLogDue disk = (store : List ℕ) (entries : List MapEntry) (logs : List (List BoxEntry)) (o : Opens (files_of disk) store entries logs) → AreUndue o.passed.map_log.generation (map_meaning store entries) entries logs
 
+-- Whatever store the files open with, they carry over all that it reads: each log has the same entries.
+abbrev pub CarriesAll : DiskState → DiskState → Type 0
+CarriesAll old new = (store : List ℕ) (entries : List MapEntry) (logs : List (List BoxEntry)) (o : Opens (files_of old) store entries logs) → CarryOver o.passed.map_log.generation (map_meaning store entries) (files_of old) (files_of new)
+
 -- Whatever store the files open with, they open again, with logs that mean the same but for generations, and with the same mail.
--- Where no log was due to be written anew, they carry over all that the store reads: each log has the same entries.
+-- Where no log was due to be written anew, they carry over all that the store reads.
 pub record CarriesOpened (old new : DiskState) : Type 0 where
   pub again : (store : List ℕ) (entries : List MapEntry) (logs : List (List BoxEntry)) → Opens (files_of old) store entries logs → CarriesStore store entries logs (files_of old) (files_of new)
-  pub undue : HasNoLogDue old → (store : List ℕ) (entries : List MapEntry) (logs : List (List BoxEntry)) (o : Opens (files_of old) store entries logs) → CarryOver o.passed.map_log.generation (map_meaning store entries) (files_of old) (files_of new)
+  pub undue : HasNoLogDue old → CarriesAll old new
 
 abbrev pub StoreCarries : Option History → Option History → Type 0
 StoreCarries = Between CarriesOpened
