@@ -1,3 +1,5 @@
-mod DueLemmas
+mod BoxEntryLemmas
+pub mod DueLemmas
 mod DueLogsLemmas
+mod MapGroupLemmas
 pub mod RewritesLemmas

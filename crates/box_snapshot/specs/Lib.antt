@@ -1,2 +1,3 @@
+pub mod BoxFilled
 pub mod Due
 pub mod Rewrites
