@@ -1,4 +1,7 @@
 mod BoxEntryLemmas
+mod BoxFillLemmas
+mod BoxGroupLemmas
+mod BoxMeantLemmas
 pub mod DueLemmas
 mod DueLogsLemmas
 mod MapGroupLemmas

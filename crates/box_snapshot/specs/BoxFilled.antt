@@ -1,5 +1,5 @@
 -- Within the crate: a draft of a mailbox log that is being filled.
-use Rattle.std.specs.Prelude.{◌≡◌, ◌≢◌, ℕ, List, [], length, map, Option, All}
+use Rattle.std.specs.Prelude.{◌≡◌, ◌≢◌, ◌≤◌, ℕ, List, [], length, map, Option, All}
 use Rattle.std.specs.Option.{option_map_or}
 use Rattle.disk_model.specs.Disk.{DiskState, History, IfTold, IsThere}
 use Rattle.disk_model.specs.declared.name.FileName.{FileName}
@@ -30,6 +30,7 @@ entries_anew number store = option_map_or box_snapshot (list_numbered store numb
 -- What a mailbox's log means can be written anew, and each message that it lists has its record.
 pub record CanBeWritten (map_meaning : MapMeaning) (m : BoxMeaning) : Type 0 where
   pub rewritten : IsRewrittenBox m (box_snapshot m)
+  pub few : length (box_snapshot m) ≤ 1000001
   pub records : All (HasItsRecord map_meaning) m.rows
 
 -- no log is there that the store doesn't need, but this one
