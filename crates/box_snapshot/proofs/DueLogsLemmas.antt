@@ -1,11 +1,13 @@
 -- The mailboxes by place: the logs of the first so many aren't due.
 use Rattle.std.specs.Prelude.{◌<◌, ◌≤◌, ◌+◌, ◌*◌, ◌==◌, ◌&&◌, ◌++◌, AllPairs, find, if◌then◌else◌, nat_le, nat_lt, slice_get}
 use Rattle.std.specs.Option.{option_map_or}
-use Rattle.std.proofs.Common.{◌≡◌, inl, inr, ℕ, Bool, true, false, List, [], ◌∷◌, length, map, Option, Some, None, All, refl, sym, ◌∙◌, ap, subst, arith, option_map}
+use Rattle.std.proofs.Common.{◌≡◌, inl, inr, ℕ, Bool, true, false, List, [], ◌∷◌, length, map, suc, zero, Option, Some, None, All, refl, sym, ◌∙◌, ap, subst, arith, option_map}
 use Rattle.std.proofs.lemmas.Bool.{cases_lt, cond-false, cond-true, eq-eqb, le-ltb, ne_eqb}
 use Rattle.std.proofs.lemmas.List.{length-append, length-map}
 use Rattle.std.proofs.lemmas.List.Elements.{All-cons, All-get_or, All-nil}
 use Rattle.std.proofs.lemmas.Option.{get_or_from_slice_get, slice_get-map, slice_get_within}
+use Rattle.map_index.specs.Shown.{shown_box}
+use Rattle.map_index.specs.declared.rows.BoxAt.{BoxAt}
 use Rattle.mdbox_base.specs.declared.entries.BoxEntry.{BoxEntry}
 use Rattle.mdbox_base.specs.declared.entries.BoxEntry.TheVariants as box
 use Rattle.mdbox_base.specs.declared.entries.MapEntry.{MapEntry}
@@ -90,6 +92,18 @@ at_place store (suc place) m (x ∷ ms) (b ∷ bs) a rising at =
     let is : b.number.0 ≡ x.number = a.0 in
     record { at = rest.at; there = rest.there; found = cond-false (b.number.0 == m.number) (Some b) (find (λ (o : OpenBox). o.number.0 == m.number) bs) (ne_eqb b.number.0 m.number (λ e. omega (arith, less, is, e))) ∙ rest.found }
 
+-- by what the store shows of the map
+pub shown_at : (store : List ℕ) (place : ℕ) (mailbox : BoxAt) (m seen : MapMeaning) (boxes : List OpenBox) → AreBoxLogs store m.boxes boxes → AllPairs (λ a b. a.number < b.number) seen.boxes → seen ≡ m → Some mailbox ≡ option_map shown_box (slice_get seen.boxes place)
+    → IsAtPlace place mailbox.number.0 boxes
+shown_at store place mailbox m seen boxes a rising same shown = by_box (slice_get m.boxes place) refl (shown ∙ ap (λ (n : MapMeaning). option_map shown_box (slice_get n.boxes place)) same)
+  where
+    by_box : (o : Option MapBox) → slice_get m.boxes place ≡ o → Some mailbox ≡ option_map shown_box o → IsAtPlace place mailbox.number.0 boxes
+    by_box None found e = absurd (cc (let k : Some mailbox ≡ None = e in k))
+    by_box (Some b) found e =
+        let k : Some mailbox ≡ Some (shown_box b) = e in
+        let is : mailbox ≡ shown_box b = cc k in
+        subst (λ (x : BoxAt). IsAtPlace place x.number.0 boxes) (sym is) (at_place store place b m.boxes boxes a (subst (λ (n : MapMeaning). AllPairs (λ c d. c.number < d.number) n.boxes) same rising) found)
+
 pub as_many_boxes : (store : List ℕ) (ms : List MapBox) (boxes : List OpenBox) → AreBoxLogs store ms boxes → length boxes ≡ length ms
 as_many_boxes store [] [] a = refl
 as_many_boxes store [] (b ∷ bs) a = absurd a
@@ -152,3 +166,9 @@ none_due number boxes undue = by_found (find (λ (b : OpenBox). b.number.0 == nu
     by_found : (o : Option OpenBox) → find (λ (b : OpenBox). b.number.0 == number) boxes ≡ o → option_map_or is_box_due o false ≡ false
     by_found None e = refl
     by_found (Some b) e = (found_holds (λ (x : OpenBox). x.number.0 == number) boxes b (λ x. is_box_due x ≡ false) e undue).0
+
+-- ---- a store that isn't stopped
+
+pub runs_on : (stopped : Bool) → (stopped ≡ true → ⊥) → stopped ≡ false
+runs_on true never = absurd (never refl)
+runs_on false never = refl

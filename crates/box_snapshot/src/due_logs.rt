@@ -65,7 +65,9 @@ fn snapshot_due_at<D: Disk>(store: &mut Store<D>, place: u32) -> Result<(), Step
     ensures unfailed { (IsErrOf result step_error.Stopped → ⊥) → NoFault (D.faults store.old.disk) (D.faults store.new.disk) }
 {
     store.facts();
-    let Some(mailbox) = store.map().box_at(place) else {
+    let map = store.map();
+    map.known_facts();
+    let Some(mailbox) = map.box_at(place) else {
         unreachable!()
     };
     if box_due(store, mailbox.number) {
