@@ -2,6 +2,7 @@
 use Rattle.std.proofs.Common.{◌≡◌, ◌↔◌, ◌+◌, ◌++◌, ℕ, Bool, false, true, List, length, length-append, take, map, fold, Result, Ok, Err, OnOk, Option, Some, None, refl, sym, ◌∙◌, ap, subst}
 use Rattle.std.specs.Prelude.{IsErrOf}
 use Rattle.std.proofs.lemmas.List.{map-append}
+use Rattle.std.proofs.lemmas.Result.{on_ok_weaker}
 use Rattle.disk_model.proofs.MomentLemmas.{if_told-map}
 use Rattle.disk_model.specs.Name.{IsLogName}
 use Rattle.disk_model.specs.Disk.{DiskState, History, Between, Grows, IfTold, SameButFor}
@@ -24,10 +25,6 @@ use Rattle.box_snapshot.specs.Rewrites.{AreNamesSynced, Rewrites, SyncsMail}
 use Rattle.box_snapshot.proofs.BoxGroupLemmas.{IsNextBoxGroup, means_more}
 use Rattle.box_snapshot.proofs.RewritesLemmas.{LeavesValue, call_rewrites, mail_beside, names_beside}
 
-pub on_ok_map : {T E : Type 0} (result : Result T E) {P Q : Type 0} → (P → Q) → OnOk result P → OnOk result Q
-on_ok_map (Ok x) f p = f p
-on_ok_map (Err e) f p = p
-
 -- the name of a draft's log is synced
 pub own_named : {D : Type 0} (h : Option History) (draft : BoxDraftValue) (v : StoreValue D) → (d : IsBoxDraft h draft v) → IfTold h (λ now. (now draft.log.name).is_name_loose ≡ false)
 own_named h draft v d = if_told-map (IsLogDrafted draft.log (map box_text d.entries)) (λ now. (now draft.log.name).is_name_loose ≡ false) h (λ disk l. l.named) d.reads
@@ -40,9 +37,9 @@ same_log_name : {D : Type 0} (old new : Option History) (draft more : BoxDraftVa
 same_log_name old new draft more v w d e same =
     e.name ∙ ap (λ n. file.Box n.0 more.generation) same.0 ∙ ap (λ g. file.Box draft.number.0 g) same.1 ∙ sym d.name
 
-names_extended : {D : Type 0} (old new : Option History) (draft more : BoxDraftValue) (v w : StoreValue D) → IsBoxDraft old draft v → IfTold old AreNamesSynced → SameButFor draft.log.name old new → IsBoxDraft new more w
+box_names_extended : {D : Type 0} (old new : Option History) (draft more : BoxDraftValue) (v w : StoreValue D) → IsBoxDraft old draft v → IfTold old AreNamesSynced → SameButFor draft.log.name old new → IsBoxDraft new more w
     → (more.number ≡ draft.number) × (more.generation ≡ draft.generation) → IfTold new AreNamesSynced
-names_extended old new draft more v w d names others e same =
+box_names_extended old new draft more v w d names others e same =
     names_beside draft.log.name old new others names (subst (λ (n : FileName). IfTold new (λ now. (now n).is_name_loose ≡ false)) (same_log_name old new draft more v w d e same) (own_named new more w e))
 
 -- with more entries
@@ -56,23 +53,23 @@ filled_more old new draft more v w all group from mapped f n e means added count
       means = means ∙ ap (λ (m : BoxMeaning). fold (λ x y. box_applied y x) m group) f.means ∙ means_more (take from all) group;
       reads = subst (λ (texts : List (List ℕ)). Drafts more.log texts new) (sym (map-append box_text (take from all) group)) (added (map box_text (take from all)) f.reads);
       count = counted ∙ ap (λ (k : ℕ). k + length group) f.count ∙ sym (length-append (take from all) group);
-      names = names_extended old new draft more v w f.drafted f.names others e same;
+      names = box_names_extended old new draft more v w f.drafted f.names others e same;
     })
 
-names_of : {D T : Type 0} (history : D → Option History) (old new : StoreValue D) (result : Result T StepError) (draft more : BoxDraftValue) (entries : List BoxEntry) → IsBoxFilled (history old.disk) entries draft old
+box_names_if_ok : {D T : Type 0} (history : D → Option History) (old new : StoreValue D) (result : Result T StepError) (draft more : BoxDraftValue) (entries : List BoxEntry) → IsBoxFilled (history old.disk) entries draft old
     → OnOk result (SameButFor draft.log.name (history old.disk) (history new.disk)) → OnOk result (IsBoxDraft (history new.disk) more new) → (more.number ≡ draft.number) × (more.generation ≡ draft.generation) → OnOk result (IfTold (history new.disk) AreNamesSynced)
-names_of history old new (Ok x) draft more entries f others drafted number = names_extended (history old.disk) (history new.disk) draft more old new f.drafted f.names others drafted number
-names_of history old new (Err e) draft more entries f others drafted number = others
+box_names_if_ok history old new (Ok x) draft more entries f others drafted number = box_names_extended (history old.disk) (history new.disk) draft more old new f.drafted f.names others drafted number
+box_names_if_ok history old new (Err e) draft more entries f others drafted number = others
 
 -- a call that extends a draft, or does nothing
-pub extension_rewrites : {D T : Type 0} (history : D → Option History) (old new : StoreValue D) (result : Result T StepError) (draft more : BoxDraftValue) (entries : List BoxEntry) → IsBoxFilled (history old.disk) entries draft old → LeavesValue old new
+pub box_group_rewrites : {D T : Type 0} (history : D → Option History) (old new : StoreValue D) (result : Result T StepError) (draft more : BoxDraftValue) (entries : List BoxEntry) → IsBoxFilled (history old.disk) entries draft old → LeavesValue old new
     → ((lists : Lists) → IsSettledFor lists (history old.disk) → Leaves lists lists (history old.disk) (history new.disk))
     → ((m : MapMeaning) → MailIsKept m (history old.disk) (history new.disk)) → Grows (history old.disk) (history new.disk)
     → IsErrOf result step_error.Stopped ↔ (new.stopped ≡ true) → (IsErrOf result step_error.NoMemory → (new ≡ old) × (more ≡ draft))
     → OnOk result ((lists : Lists) → IsSettledFor lists (history old.disk) → IsSettledFor lists (history new.disk))
     → OnOk result (SameButFor draft.log.name (history old.disk) (history new.disk)) → OnOk result (IsBoxDraft (history new.disk) more new)
     → (more.number ≡ draft.number) × (more.generation ≡ draft.generation) → Rewrites history old new
-extension_rewrites history old new result draft more entries f same images stays grows stopped memory settled others drafted number =
+box_group_rewrites history old new result draft more entries f same images stays grows stopped memory settled others drafted number =
     call_rewrites history old new result same images stays grows stopped (λ none. (memory none).0) settled
-    (on_ok_map result (mail_beside draft.log.name (history old.disk) (history new.disk) (is_box_log (history old.disk) draft old f.drafted)) others)
-    (names_of history old new result draft more entries f others drafted number)
+    (on_ok_weaker result (mail_beside draft.log.name (history old.disk) (history new.disk) (is_box_log (history old.disk) draft old f.drafted)) others)
+    (box_names_if_ok history old new result draft more entries f others drafted number)

@@ -2,9 +2,12 @@ mod BoxEntryLemmas
 mod BoxFillLemmas
 mod BoxGroupLemmas
 mod BoxMeantLemmas
-pub mod DueLemmas
+mod DueLemmas
 mod DueLogsLemmas
 mod MapEntryLemmas
+mod MapFillLemmas
 mod MapGroupLemmas
+mod MapKnownLemmas
+mod MapSnapshotLemmas
 mod OpenAgainLemmas
 pub mod RewritesLemmas

@@ -3,7 +3,7 @@ use Rattle.model_meaning.specs.BoxMeaning.{BoxMeaning}
 use Rattle.store_core.specs.Drafts.{AllFitBehind}
 use Rattle.store_core.specs.Value.{list_numbered}
 use Rattle.box_snapshot.specs.BoxFilled.{entries_anew}
-use Rattle.box_snapshot.proofs.BoxFillLemmas.{extension_rewrites, filled_more}
+use Rattle.box_snapshot.proofs.BoxFillLemmas.{box_group_rewrites, filled_more}
 use Rattle.box_snapshot.proofs.BoxGroupLemmas.{group_next_of}
 use Rattle.box_snapshot.proofs.RewritesLemmas.{rewrites_itself}
 use Rattle.box_snapshot.proofs.box_log.add_group.Goals as goal
@@ -26,7 +26,7 @@ extend_box-requires-clause-records g c =
 
 pub returns-in_err-extend_box-clause-rewrites : goal.returns-in_err-extend_box-clause-rewrites
 returns-in_err-extend_box-clause-rewrites g c =
-    extension_rewrites g.D.Disk.history c.args.store.now c.extend_box.new.self c.extend_box.result c.args.draft.now c.extend_box.new.draft _ c.requires.filled c.extend_box.ensures.same c.extend_box.ensures.any_moment c.extend_box.ensures.mail_stays
+    box_group_rewrites g.D.Disk.history c.args.store.now c.extend_box.new.self c.extend_box.result c.args.draft.now c.extend_box.new.draft _ c.requires.filled c.extend_box.ensures.same c.extend_box.ensures.any_moment c.extend_box.ensures.mail_stays
     c.extend_box.ensures.grows c.extend_box.ensures.stopped c.extend_box.ensures.memory c.extend_box.ensures.settled c.extend_box.ensures.others c.extend_box.ensures.draft c.extend_box.ensures.number
 
 pub overflow_cast-result : goal.overflow_cast-result
@@ -44,7 +44,7 @@ overflow_add-result g c =
 
 pub returns-clause-rewrites : goal.returns-clause-rewrites
 returns-clause-rewrites g c =
-    extension_rewrites g.D.Disk.history c.args.store.now c.extend_box.new.self c.extend_box.result c.args.draft.now c.extend_box.new.draft _ c.requires.filled c.extend_box.ensures.same c.extend_box.ensures.any_moment c.extend_box.ensures.mail_stays
+    box_group_rewrites g.D.Disk.history c.args.store.now c.extend_box.new.self c.extend_box.result c.args.draft.now c.extend_box.new.draft _ c.requires.filled c.extend_box.ensures.same c.extend_box.ensures.any_moment c.extend_box.ensures.mail_stays
     c.extend_box.ensures.grows c.extend_box.ensures.stopped c.extend_box.ensures.memory c.extend_box.ensures.settled c.extend_box.ensures.others c.extend_box.ensures.draft c.extend_box.ensures.number
 
 pub returns-clause-further : goal.returns-clause-further
