@@ -1,8 +1,10 @@
 -- A draft of a mailbox log that is filled further.
-use Rattle.std.proofs.Common.{◌≡◌, ◌↔◌, ◌+◌, ◌++◌, ℕ, Bool, false, true, List, length, length-append, take, map, fold, Result, Ok, Err, OnOk, Option, Some, None, refl, sym, ◌∙◌, ap, subst}
+use Rattle.std.proofs.Common.{◌≡◌, ◌≢◌, ◌↔◌, ◌+◌, ◌++◌, [], ℕ, Bool, false, true, List, length, length-append, take, map, fold, Result, Ok, Err, OnOk, Option, Some, None, refl, sym, ◌∙◌, ap, subst}
 use Rattle.std.specs.Prelude.{IsErrOf}
+use Rattle.std.specs.Option.{option_map_or}
 use Rattle.std.proofs.lemmas.List.{map-append}
 use Rattle.std.proofs.lemmas.Result.{on_ok_weaker}
+use Rattle.disk_model.proofs.BetweenLemmas.{between-then}
 use Rattle.disk_model.proofs.MomentLemmas.{if_told-map}
 use Rattle.disk_model.specs.Name.{IsLogName}
 use Rattle.disk_model.specs.Disk.{DiskState, History, Between, Grows, IfTold, SameButFor}
@@ -15,12 +17,13 @@ use Rattle.model_lists.specs.Lists.{Lists}
 use Rattle.model_logs.specs.Entries.{box_text}
 use Rattle.model_meaning.specs.BoxMeaning.{BoxMeaning, box_applied, box_meaning}
 use Rattle.model_meaning.specs.MapMeaning.{MapMeaning}
+use Rattle.model_rewritten.specs.Rewriting.{box_snapshot}
 use Rattle.model_store.specs.Settled.{IsSettledFor, Leaves}
 use Rattle.store_core.specs.Drafts.{BoxDraftValue, IsBoxDraft}
-use Rattle.store_core.specs.Value.{StoreValue}
+use Rattle.store_core.specs.Value.{StoreValue, list_numbered}
 use Rattle.store_core.specs.declared.error.StepError.{StepError}
 use Rattle.store_core.specs.declared.error.StepError.TheVariants as step_error
-use Rattle.box_snapshot.specs.BoxFilled.{IsBoxFilled}
+use Rattle.box_snapshot.specs.BoxFilled.{IsBoxFilled, entries_anew}
 use Rattle.box_snapshot.specs.Rewrites.{AreNamesSynced, Rewrites, SyncsMail}
 use Rattle.box_snapshot.proofs.BoxGroupLemmas.{IsNextBoxGroup, means_more}
 use Rattle.box_snapshot.proofs.RewritesLemmas.{LeavesValue, call_rewrites, mail_beside, names_beside}
@@ -31,7 +34,7 @@ own_named h draft v d = if_told-map (IsLogDrafted draft.log (map box_text d.entr
 
 -- it is a log's
 pub is_box_log : {D : Type 0} (h : Option History) (draft : BoxDraftValue) (v : StoreValue D) → IsBoxDraft h draft v → IsLogName draft.log.name
-is_box_log h draft v d = subst IsLogName (sym d.name) tt
+is_box_log h draft v d = subst IsLogName (sym d.name) refl
 
 same_log_name : {D : Type 0} (old new : Option History) (draft more : BoxDraftValue) (v w : StoreValue D) → IsBoxDraft old draft v → IsBoxDraft new more w → (more.number ≡ draft.number) × (more.generation ≡ draft.generation) → more.log.name ≡ draft.log.name
 same_log_name old new draft more v w d e same =
@@ -73,3 +76,20 @@ box_group_rewrites history old new result draft more entries f same images stays
     call_rewrites history old new result same images stays grows stopped (λ none. (memory none).0) settled
     (on_ok_weaker result (mail_beside draft.log.name (history old.disk) (history new.disk) (is_box_log (history old.disk) draft old f.drafted)) others)
     (box_names_if_ok history old new result draft more entries f others drafted number)
+
+-- ---- one group behind another
+
+-- the entries are those of the mailbox's log as it was
+pub anew_same : {D : Type 0} (number : ℕ) (v w : StoreValue D) → LeavesValue v w → entries_anew number w ≡ entries_anew number v
+anew_same number v w same = ap (λ (s : StoreValue _). entries_anew number s) same
+
+pub anew_there : {D : Type 0} (number : ℕ) (v : StoreValue D) (list : Option BoxMeaning) (m : BoxMeaning) → list ≡ list_numbered v number → list ≡ Some m → entries_anew number v ≡ box_snapshot m
+anew_there number v list m is some = ap (λ (o : Option BoxMeaning). option_map_or box_snapshot o []) (sym is ∙ some)
+
+-- the one draft has changed, and then the same with entries more
+pub box_others_then : {D : Type 0} (old now new : Option History) (draft later : BoxDraftValue) (v w : StoreValue D) → IsBoxDraft old draft v → IsBoxDraft now later w → (later.number ≡ draft.number) × (later.generation ≡ draft.generation)
+    → SameButFor draft.log.name old now → SameButFor later.log.name now new → SameButFor draft.log.name old new
+box_others_then old now new draft later v w d e same first second =
+    let Same : FileName → DiskState → DiskState → Type 0 = λ name a b. (other : FileName) → other ≢ name → b other ≡ a other in
+    between-then (Same draft.log.name) (Same draft.log.name) (Same draft.log.name) old now new (λ a b c f s other apart. s other apart ∙ f other apart) first
+    (subst (λ (name : FileName). SameButFor name now new) (same_log_name old now draft later v w d e same) second)
