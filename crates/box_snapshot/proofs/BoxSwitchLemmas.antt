@@ -10,7 +10,7 @@ use Rattle.disk_model.specs.Disk.{Between, DiskState, FileState, Grows, History,
 use Rattle.disk_model.specs.Name.{IsLogName, same_name}
 use Rattle.disk_model.specs.declared.name.FileName.{FileName}
 use Rattle.disk_model.specs.declared.name.FileName.TheVariants as file
-use Rattle.gate_log.specs.Log.{Drafts, Reads}
+use Rattle.gate_log.specs.Log.{Drafts, NamedButFor, Reads}
 use Rattle.gate_log.specs.State.{IsSameLog}
 use Rattle.mdbox_base.specs.declared.entries.BoxEntry.{BoxEntry}
 use Rattle.mdbox_base.specs.declared.entries.MapEntry.TheVariants as map_entry
@@ -40,7 +40,7 @@ use Rattle.box_snapshot.specs.BoxFilled.{IsBoxFilled, OnlyLogsBut, entries_anew}
 use Rattle.box_snapshot.specs.Rewrites.{AreNamesSynced, IsBoxWritten, OnlyLogsInForce, Rewrites, SyncsMail}
 use Rattle.box_snapshot.proofs.BoxFillLemmas.{anew_there, is_box_log}
 use Rattle.box_snapshot.proofs.DueLemmas.{IsOpenBox, open_in_map}
-use Rattle.box_snapshot.proofs.RewritesLemmas.{mail_named_three, safe_always}
+use Rattle.box_snapshot.proofs.RewritesLemmas.{LeavesValue, mail_named_three, safe_always}
 
 -- ---- the mailbox
 
@@ -170,6 +170,15 @@ pub only_switched : {D : Type 0} (h : Option History) (v w : StoreValue D) (mail
 only_switched h v w mailbox draft None new s o number own taken log others gone = others
 only_switched h v w mailbox draft (Some old) None s o number own taken log others gone = absurd others
 only_switched h v w mailbox draft (Some old) (Some new) s o number own taken log others gone = only_between h v w mailbox draft old.now new.now s o number own taken log others gone
+
+-- a draft that was made before is the only log more
+pub only_drafted : {D : Type 0} (v now w : StoreValue D) (name : FileName) (old mid new : Option History) → LeavesValue v now → NamedButFor name old mid → Between (λ a b. OnlyLogsBut name now a → OnlyLogsInForce w b) mid new
+    → Between (λ a b. OnlyLogsInForce v a → OnlyLogsInForce w b) old new
+only_drafted v now w name None mid new same others only = subst (λ (h : Option History). Between (λ a b. OnlyLogsBut name now a → OnlyLogsInForce w b) h new) others only
+only_drafted v now w name (Some old) None new same others only = absurd others
+only_drafted v now w name (Some old) (Some mid) None same others only = absurd only
+only_drafted v now w name (Some old) (Some mid) (Some new) same others only = λ before. only (λ other apart free there.
+    before other (subst (λ (s : StoreValue _). IsUnneeded s.map_log.head.generation s.map other) same free) (there_before (old.now other) (subst IsThere (others other apart) there)))
 
 -- ---- after Ok
 
