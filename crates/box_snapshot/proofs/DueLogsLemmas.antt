@@ -1,17 +1,20 @@
 -- The mailboxes by place: the logs of the first so many aren't due.
-use Rattle.std.specs.Prelude.{◌<◌, ◌≤◌, ◌+◌, ◌*◌, ◌==◌, ◌&&◌, ◌++◌, AllPairs, find, if◌then◌else◌, nat_le, nat_lt, slice_get}
+use Rattle.std.specs.Prelude.{◌≢◌, ◌<◌, ◌≤◌, ◌+◌, ◌*◌, ◌==◌, ◌&&◌, ◌++◌, AllPairs, find, if◌then◌else◌, nat_le, nat_lt, slice_get}
 use Rattle.std.specs.Option.{option_map_or}
-use Rattle.std.proofs.Common.{◌≡◌, inl, inr, ℕ, Bool, true, false, List, [], ◌∷◌, length, map, suc, zero, Option, Some, None, All, refl, sym, ◌∙◌, ap, subst, arith, option_map}
-use Rattle.std.proofs.lemmas.Bool.{cases_lt, cond-false, cond-true, eq-eqb, le-ltb, ne_eqb}
+use Rattle.std.proofs.Common.{◌≡◌, inl, inr, ℕ, Bool, true, false, cond, List, [], ◌∷◌, length, map, suc, zero, Option, Some, None, All, refl, sym, ◌∙◌, ap, subst, arith, option_map}
+use Rattle.std.proofs.lemmas.Bool.{cases_lt, cond-false, cond-true, eq-eqb, le-ltb, ne_eqb, true≢false}
 use Rattle.std.proofs.lemmas.List.{length-append, length-map}
 use Rattle.std.proofs.lemmas.List.Elements.{All-cons, All-get_or, All-nil}
 use Rattle.std.proofs.lemmas.Option.{get_or_from_slice_get, slice_get-map, slice_get_within}
+use Rattle.disk_model.specs.Disk.{History}
 use Rattle.map_index.specs.Shown.{shown_box}
 use Rattle.map_index.specs.declared.rows.BoxAt.{BoxAt}
 use Rattle.mdbox_base.specs.declared.entries.BoxEntry.{BoxEntry}
 use Rattle.mdbox_base.specs.declared.entries.BoxEntry.TheVariants as box
 use Rattle.mdbox_base.specs.declared.entries.MapEntry.{MapEntry}
 use Rattle.mdbox_base.specs.declared.entries.MapEntry.TheVariants as map_entry
+use Rattle.mdbox_base.specs.declared.ids.BoxNo.{BoxNo}
+use Rattle.model_meaning.proofs.MapPlaceLemmas.{equal_is}
 use Rattle.model_meaning.specs.BoxMeaning.{BoxMeaning}
 use Rattle.model_meaning.specs.MapMeaning.{MapBox, MapMeaning}
 use Rattle.model_meaning.specs.SameMeaning.{MeansSame}
@@ -20,7 +23,8 @@ use Rattle.model_rewritten.specs.Rewriting.{box_snapshot, made_entry, map_snapsh
 use Rattle.store_core.specs.Running.{AreBoxLogs}
 use Rattle.store_core.specs.Value.{StoreValue}
 use Rattle.store_core.specs.declared.store.OpenBox.{OpenBox}
-use Rattle.box_snapshot.specs.Due.{AreUndueTo, is_box_due, is_log_due, is_map_due, needs_of_box, needs_of_map}
+use Rattle.box_snapshot.specs.Due.{AreUndueTo, KeepsUndue, is_box_due, is_due_at, is_log_due, is_map_due, needs_of_box, needs_of_map}
+use Rattle.box_snapshot.specs.Rewrites.{IsBoxWritten}
 
 -- ---- a log that was written anew
 
@@ -133,14 +137,14 @@ replaced number now (Some b) written undue = one (b.number.0 == number)
     one true = written
     one false = undue
 
+all_same : (bs : List OpenBox) → All (λ (b : OpenBox). b ≡ b) bs
+all_same [] = All-nil (λ (b : OpenBox). b ≡ b)
+all_same (b ∷ bs) = All-cons (λ (x : OpenBox). x ≡ x) b bs refl (all_same bs)
+
 replaced_at : (place number : ℕ) (now : OpenBox) (boxes : List OpenBox) → IsAtPlace place number boxes → is_box_due now ≡ false → option_map_or is_box_due (option_map (λ b. if b.number.0 == number then now else b) (slice_get boxes place)) false ≡ false
 replaced_at place number now boxes p written =
     ap (λ (o : Option OpenBox). option_map_or is_box_due (option_map (λ (b : OpenBox). if b.number.0 == number then now else b) o) false) p.there
     ∙ ap (λ (b : OpenBox). is_box_due b) (cond-true (p.at.number.0 == number) now p.at (found_holds (λ (b : OpenBox). b.number.0 == number) boxes p.at (λ b. b ≡ b) p.found (all_same boxes)).1) ∙ written
-  where
-    all_same : (bs : List OpenBox) → All (λ (b : OpenBox). b ≡ b) bs
-    all_same [] = All-nil (λ (b : OpenBox). b ≡ b)
-    all_same (b ∷ bs) = All-cons (λ (x : OpenBox). x ≡ x) b bs refl (all_same bs)
 
 pub undue_written : (place number : ℕ) (now : OpenBox) (old new : List OpenBox) → IsAtPlace place number old → new ≡ map (λ b. if b.number.0 == number then now else b) old → is_box_due now ≡ false → AreUndueTo place old → AreUndueTo (place + 1) new
 undue_written place number now old new p is written before = λ i below.
@@ -166,6 +170,34 @@ none_due number boxes undue = by_found (find (λ (b : OpenBox). b.number.0 == nu
     by_found : (o : Option OpenBox) → find (λ (b : OpenBox). b.number.0 == number) boxes ≡ o → option_map_or is_box_due o false ≡ false
     by_found None e = refl
     by_found (Some b) e = (found_holds (λ (x : OpenBox). x.number.0 == number) boxes b (λ x. is_box_due x ≡ false) e undue).0
+
+-- ---- mailboxes that aren't due
+
+-- another mailbox is found as it was
+find_beside : (number place : ℕ) (now : OpenBox) (boxes : List OpenBox) → place ≢ number → now.number.0 ≡ place
+    → find (λ b. b.number.0 == number) (map (λ b. if b.number.0 == place then now else b) boxes) ≡ find (λ b. b.number.0 == number) boxes
+find_beside number place now [] apart is = refl
+find_beside number place now (b ∷ bs) apart is = one (b.number.0 == place) refl (find_beside number place now bs apart is)
+  where
+    passed : (c : OpenBox) (rest : Option OpenBox) → c.number.0 ≡ place → cond (c.number.0 == number) (Some c) rest ≡ rest
+    passed c rest e = cond-false (c.number.0 == number) (Some c) rest (ne_eqb c.number.0 number (λ same. apart (sym e ∙ same)))
+
+    one : (t : Bool) → (b.number.0 == place) ≡ t → {rest after : Option OpenBox} → after ≡ rest → cond ((if t then now else b).number.0 == number) (Some (if t then now else b)) after ≡ cond (b.number.0 == number) (Some b) rest
+    one true e {rest} {after} same = passed now after is ∙ same ∙ sym (passed b rest (equal_is b.number.0 place e))
+    one false e {rest} {after} same = ap (cond (b.number.0 == number) (Some b)) same
+
+-- the mailbox that was written anew was due
+pub kept_written : {D : Type 0} (written : ℕ) (history : Option History) (old new : StoreValue D) → is_due_at written old ≡ true → IsBoxWritten written history old new → KeepsUndue old new
+kept_written written history old new due w = λ number undue.
+    let apart : written ≢ number = λ same. true≢false (sym due ∙ (ap (λ (k : ℕ). is_due_at k old) same ∙ undue)) in
+    let own : w.before.number.0 ≡ written = equal_is w.before.number.0 written (found_holds (λ (b : OpenBox). b.number.0 == written) old.boxes w.before (λ b. b ≡ b) w.found (all_same old.boxes)).1 in
+    ap (find (λ (b : OpenBox). b.number.0 == number)) w.boxes ∙ find_beside number written w.now old.boxes apart (ap (λ (n : BoxNo). n.0) w.number_is ∙ own)
+
+pub kept_then : {D : Type 0} (a b c : StoreValue D) → KeepsUndue a b → KeepsUndue b c → KeepsUndue a c
+kept_then a b c first second = λ number undue. second number (ap (λ (o : Option OpenBox). option_map_or is_box_due o false) (first number undue) ∙ undue) ∙ first number undue
+
+pub kept_on : {D : Type 0} (a b c : StoreValue D) → c.boxes ≡ b.boxes → KeepsUndue a b → KeepsUndue a c
+kept_on a b c same first = λ number undue. ap (find (λ (x : OpenBox). x.number.0 == number)) same ∙ first number undue
 
 -- ---- a store that isn't stopped
 

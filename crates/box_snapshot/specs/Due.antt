@@ -36,6 +36,10 @@ pub record NoLogDue {D : Type 0} (store : StoreValue D) : Type 0 where
   pub boxes : All (λ b. is_box_due b ≡ false) store.boxes
   pub map_log : is_map_due store ≡ false
 
+-- Each mailbox whose log isn't due is as it was.
+abbrev pub KeepsUndue : {D : Type 0} → StoreValue D → StoreValue D → Type 0
+KeepsUndue old new = (number : ℕ) → is_due_at number old ≡ false → find (λ b. b.number.0 == number) new.boxes ≡ find (λ b. b.number.0 == number) old.boxes
+
 -- ---- within the crate
 
 -- the logs of the first so many mailboxes aren't due

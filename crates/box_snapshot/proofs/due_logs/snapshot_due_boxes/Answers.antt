@@ -4,7 +4,7 @@ use Rattle.model_meaning.specs.MapMeaning.{MapMeaning}
 use Rattle.store_core.specs.Value.{StoreValue}
 use Rattle.store_core.specs.declared.store.OpenBox.{OpenBox}
 use Rattle.box_snapshot.specs.Due.{is_box_due}
-use Rattle.box_snapshot.proofs.DueLogsLemmas.{all_undue, as_many_boxes, as_many_still, runs_on}
+use Rattle.box_snapshot.proofs.DueLogsLemmas.{all_undue, as_many_boxes, as_many_still, kept_then, runs_on}
 use Rattle.box_snapshot.proofs.RewritesLemmas.{only_itself, only_then, rewrites_itself, rewrites_then}
 use Rattle.box_snapshot.proofs.due_logs.snapshot_due_boxes.Goals as goal
 
@@ -15,6 +15,7 @@ loop-place-init g c = record {
   unmade = c.requires.unmade;
   many = c.boxes-place-end.ensures ∙ ap (λ (m : MapMeaning). length m.boxes) c.map.ensures;
   undue = λ i below. absurd (omega (arith, below));
+  kept = λ number undue. refl;
   only = only_itself g.D.Disk.history c.args.store.now;
   idle = λ undue. refl;
   faults = refl;
@@ -49,6 +50,7 @@ loop-place-preserved g c =
       unmade = ap (λ (s : StoreValue _). s.made) did.rewrites.same ∙ was.unmade;
       many = was.many ∙ sym (as_many_still c.loop-place.store.map c.snapshot_due_at.new.store.map did.rewrites.means);
       undue = did.undue was.undue;
+      kept = kept_then c.args.store.now c.loop-place.store c.snapshot_due_at.new.store was.kept did.kept;
       only = only_then g.D.Disk.history c.args.store.now c.loop-place.store c.snapshot_due_at.new.store was.only did.only;
       idle = λ undue. (did.idle (subst (λ (s : StoreValue _). All (λ b. is_box_due b ≡ false) s.boxes) (sym (was.idle undue)) undue)).1 ∙ was.idle undue;
       faults = did.unfailed (λ stops. absurd (cc stops)) ∙ was.faults;
@@ -67,6 +69,9 @@ returns-clause-undue g c =
 
 pub returns-clause-only : goal.returns-clause-only
 returns-clause-only g c = c.loop-place.invariant.only
+
+pub returns-clause-kept : goal.returns-clause-kept
+returns-clause-kept g c = c.loop-place.invariant.kept
 
 pub returns-clause-idle : goal.returns-clause-idle
 returns-clause-idle g c = λ undue. (refl, c.loop-place.invariant.idle undue)
