@@ -23,7 +23,7 @@ use Rattle.store_core.specs.Value.{StoreValue}
 use Rattle.store_core.specs.declared.error.StepError.{StepError}
 use Rattle.store_core.specs.declared.error.StepError.TheVariants as step_error
 use Rattle.box_snapshot.specs.Filled.{IsDraftFilled}
-use Rattle.box_snapshot.specs.Rewrites.{AreNamesSynced, Rewrites, SyncsMailNames}
+use Rattle.box_snapshot.specs.Rewrites.{AreNamesSynced, Rewrites}
 use Rattle.box_snapshot.proofs.MapGroupLemmas.{IsNextGroup}
 use Rattle.box_snapshot.proofs.RewritesLemmas.{LeavesValue, call_rewrites, mail_beside, names_beside}
 

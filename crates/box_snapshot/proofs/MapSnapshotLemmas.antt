@@ -1,21 +1,28 @@
 -- A draft of the map log that is made, and put in the place of the one in force.
-use Rattle.std.proofs.Common.{◌≡◌, ◌≢◌, ◌↔◌, ◌+◌, ◌<◌, inl, inr, ℕ, Bool, true, false, [], List, Result, Ok, Err, IfOk, OnOk, Option, None, Some, refl, sym, ◌∙◌, ap, subst}
+use Rattle.std.proofs.Common.{◌≡◌, ◌↔◌, inr, Bool, true, false, [], Result, Ok, Err, IfOk, OnOk, Option, refl, sym, ◌∙◌, ap, subst}
 use Rattle.std.specs.Prelude.{IsErrOf}
-use Rattle.disk_model.specs.Disk.{Between, Grows, History, IfTold, SameButFor}
+use Rattle.std.proofs.lemmas.Bool.{true≢false}
+use Rattle.std.proofs.lemmas.Result.{on_ok_weaker}
+use Rattle.disk_model.specs.Disk.{Between, Grows, History, IfTold}
+use Rattle.disk_model.specs.Name.{IsLogName}
 use Rattle.disk_model.specs.declared.name.FileName.{FileName}
 use Rattle.gate_log.specs.Log.{Drafts, NamedButFor}
 use Rattle.model_kept.specs.Kept.{MailIsKept}
 use Rattle.model_lists.specs.Lists.{Lists}
+use Rattle.model_meaning.proofs.SameMeaningLemmas.{means_itself}
 use Rattle.model_meaning.specs.MapMeaning.{MapMeaning, map_meaning}
+use Rattle.model_meaning.specs.SameMeaning.{MeansSame}
 use Rattle.model_store.specs.Settled.{IsSettledFor, Leaves}
+use Rattle.store_core.specs.Drafts.{AreNamedButFor}
 use Rattle.store_core.specs.MapDrafts.{IsMapDraft, MapDraftValue}
-use Rattle.store_core.specs.Value.{StoreValue}
+use Rattle.store_core.specs.Running.{IsStore}
+use Rattle.store_core.specs.Value.{StoreValue, indexes_of}
 use Rattle.store_core.specs.declared.error.StepError.{StepError}
 use Rattle.store_core.specs.declared.error.StepError.TheVariants as step_error
 use Rattle.box_snapshot.specs.Filled.{IsFilled}
 use Rattle.box_snapshot.specs.Rewrites.{AreNamesSynced, Rewrites, SyncsMail}
 use Rattle.box_snapshot.proofs.MapFillLemmas.{draft_is_log, draft_named, same_map}
-use Rattle.box_snapshot.proofs.RewritesLemmas.{LeavesValue, call_rewrites, mail_named, names_after}
+use Rattle.box_snapshot.proofs.RewritesLemmas.{LeavesValue, call_rewrites, mail_named, mail_named_three, names_after, safe_always}
 
 -- ---- a draft is made
 
@@ -46,10 +53,34 @@ filled_first old new v w draft same d empty nothing counted others = record {
   names = names_after draft.log.name old new others (draft_named new w draft d);
 }
 
--- and then it is changed
-pub named_then : (name : FileName) (old now new : Option History) → NamedButFor name old now → SameButFor name now new → NamedButFor name old new
-named_then name None None new first second = second
-named_then name None (Some now) new first second = absurd (let e : Some now ≡ None = first in cc)
-named_then name (Some old) None new first second = absurd first
-named_then name (Some old) (Some now) None first second = second
-named_then name (Some old) (Some now) (Some new) first second = λ other apart. second other apart ∙ first other apart
+-- ---- it is put in the place of the one in force
+
+mail_if_switched : {T : Type 0} (root name own : FileName) (old new : Option History) (result : Result T StepError) → IsLogName root → IsLogName name → IsLogName own → OnOk result (Between (AreNamedButFor root name own) old new) → OnOk result (Between SyncsMail old new)
+mail_if_switched root name own old new result first second third others = on_ok_weaker result (mail_named_three root name own old new first second third) others
+
+-- a call that takes no memory did this, if the store isn't stopped
+done_if_running : {T : Type 0} (result : Result T StepError) (off : Bool) (P : Type 0) → IsErrOf result step_error.Stopped ↔ (off ≡ true) → (IsErrOf result step_error.NoMemory → ⊥) → OnOk result P → off ≡ false → P
+done_if_running (Ok x) off P stopped memory did runs = did
+done_if_running (Err step_error.Stopped) off P stopped memory did runs = absurd (true≢false (sym (stopped.0 refl) ∙ runs))
+done_if_running (Err step_error.NoMemory) off P stopped memory did runs = absurd (memory refl)
+
+pub switched_rewrites : {D T : Type 0} (history : D → Option History) (old new : StoreValue D) (draft : MapDraftValue) (result : Result T StepError) → IsStore (history old.disk) old → IsMapDraft (history old.disk) draft old
+    → new ≡ record old { disk = new.disk; root_log = new.root_log; map_log = new.map_log; stopped = new.stopped }
+    → ((lists : Lists) → IsSettledFor lists (history old.disk) → Leaves lists lists (history old.disk) (history new.disk))
+    → ((m : MapMeaning) → MailIsKept m (history old.disk) (history new.disk)) → Grows (history old.disk) (history new.disk)
+    → IsErrOf result step_error.Stopped ↔ (new.stopped ≡ true) → (IsErrOf result step_error.NoMemory → ⊥)
+    → OnOk result ((lists : Lists) → IsSettledFor lists (history old.disk) → IsSettledFor lists (history new.disk))
+    → OnOk result (Between (AreNamedButFor old.root_log.name old.map_log.name draft.log.name) (history old.disk) (history new.disk)) → OnOk result (IfTold (history new.disk) AreNamesSynced) → Rewrites history old new
+switched_rewrites history old new draft result s d same images stays grows stopped memory settled others names =
+    let mail = mail_if_switched old.root_log.name old.map_log.name draft.log.name (history old.disk) (history new.disk) result (subst IsLogName (sym s.root_name) refl) (subst IsLogName (sym s.map_name) refl) (draft_is_log (history old.disk) old draft d) others in
+    record {
+      means = subst (λ (m : MapMeaning). MeansSame old.map m) (sym (ap (λ (x : StoreValue _). x.map) same)) (means_itself old.map);
+      indexes = ap (λ (x : StoreValue _). indexes_of x.boxes) same;
+      same = same ∙ ap (λ (x : StoreValue _). record old { disk = new.disk; root_log = new.root_log; map_log = new.map_log; map = x.map; boxes = x.boxes; stopped = new.stopped }) (sym same);
+      any_moment = λ lists is. safe_always lists (history old.disk) (history new.disk) (images lists is);
+      mail_stays = stays;
+      grows = grows;
+      settled = λ runs. done_if_running result new.stopped _ stopped memory settled runs;
+      mail = λ runs. done_if_running result new.stopped _ stopped memory mail runs;
+      names = λ runs. inr (done_if_running result new.stopped _ stopped memory names runs);
+    }

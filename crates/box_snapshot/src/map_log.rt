@@ -35,8 +35,8 @@ pub fn snapshot_map<D: Disk>(store: &mut Store<D>) -> Result<(), StepError>
     ensures fault { ChangeFaultCounted (IsErrOf result step_error.Stopped) (D.faults store.old.disk) (D.faults store.new.disk) }
     ensures unfailed { (IsErrOf result step_error.Stopped → ⊥) → NoFault (D.faults store.old.disk) (D.faults store.new.disk) }
 {
-    store.facts();
     let draft = drafted(store)?;
+    store.facts();
     store.switch_map(draft)
 }
 

@@ -1,4 +1,4 @@
-use Rattle.std.proofs.Common.{◌≡◌, ◌≤◌, ℕ, length, take, refl, subst, ◌∙◌, arith, Ok}
+use Rattle.std.proofs.Common.{◌≡◌, ◌≤◌, length, take, refl, subst, ◌∙◌, arith, Ok}
 use Rattle.model_meaning.specs.MapMeaning.{MapMeaning}
 use Rattle.model_rewritten.specs.Rewriting.{map_snapshot}
 use Rattle.store_core.specs.declared.error.StepError.TheVariants as step_error
