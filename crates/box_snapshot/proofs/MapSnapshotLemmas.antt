@@ -19,14 +19,14 @@ use Rattle.store_core.specs.Running.{IsStore}
 use Rattle.store_core.specs.Value.{StoreValue, indexes_of}
 use Rattle.store_core.specs.declared.error.StepError.{StepError}
 use Rattle.store_core.specs.declared.error.StepError.TheVariants as step_error
-use Rattle.box_snapshot.specs.Filled.{IsFilled}
-use Rattle.box_snapshot.specs.Rewrites.{AreNamesSynced, Rewrites, SyncsMail}
+use Rattle.box_snapshot.specs.Filled.{IsDraftFilled}
+use Rattle.box_snapshot.specs.Rewrites.{AreNamesSynced, Rewrites, SyncsMailNames}
 use Rattle.box_snapshot.proofs.MapFillLemmas.{draft_is_log, draft_named, same_map}
 use Rattle.box_snapshot.proofs.RewritesLemmas.{LeavesValue, call_rewrites, mail_named, mail_named_three, names_after, safe_always}
 
 -- ---- a draft is made
 
-mail_if_made : {D : Type 0} (old new : Option History) (w : StoreValue D) (result : Result MapDraftValue StepError) → IfOk result (λ draft. IsMapDraft new draft w) → IfOk result (λ draft. NamedButFor draft.log.name old new) → OnOk result (Between SyncsMail old new)
+mail_if_made : {D : Type 0} (old new : Option History) (w : StoreValue D) (result : Result MapDraftValue StepError) → IfOk result (λ draft. IsMapDraft new draft w) → IfOk result (λ draft. NamedButFor draft.log.name old new) → OnOk result (Between SyncsMailNames old new)
 mail_if_made old new w (Ok draft) d others = mail_named draft.log.name old new (draft_is_log new w draft d) others
 mail_if_made old new w (Err e) d others = tt
 
@@ -44,7 +44,7 @@ made_rewrites history old new result same images stays grows stopped memory sett
     call_rewrites history old new result same images stays grows stopped memory settled (mail_if_made (history old.disk) (history new.disk) new result d others) (names_if_made (history old.disk) (history new.disk) new result d others)
 
 -- it has no entries
-pub filled_first : {D : Type 0} (old new : Option History) (v w : StoreValue D) (draft : MapDraftValue) → LeavesValue v w → IsMapDraft new draft w → draft.map.meaning ≡ map_meaning v.map.store [] → Drafts draft.log [] new → draft.log.count ≡ 0 → NamedButFor draft.log.name old new → IsFilled new [] draft w
+pub filled_first : {D : Type 0} (old new : Option History) (v w : StoreValue D) (draft : MapDraftValue) → LeavesValue v w → IsMapDraft new draft w → draft.map.meaning ≡ map_meaning v.map.store [] → Drafts draft.log [] new → draft.log.count ≡ 0 → NamedButFor draft.log.name old new → IsDraftFilled new [] draft w
 filled_first old new v w draft same d empty nothing counted others = record {
   drafted = d;
   means = empty ∙ ap (λ (m : MapMeaning). map_meaning m.store []) (sym (same_map v w same));
@@ -55,7 +55,7 @@ filled_first old new v w draft same d empty nothing counted others = record {
 
 -- ---- it is put in the place of the one in force
 
-mail_if_switched : {T : Type 0} (root name own : FileName) (old new : Option History) (result : Result T StepError) → IsLogName root → IsLogName name → IsLogName own → OnOk result (Between (AreNamedButFor root name own) old new) → OnOk result (Between SyncsMail old new)
+mail_if_switched : {T : Type 0} (root name own : FileName) (old new : Option History) (result : Result T StepError) → IsLogName root → IsLogName name → IsLogName own → OnOk result (Between (AreNamedButFor root name own) old new) → OnOk result (Between SyncsMailNames old new)
 mail_if_switched root name own old new result first second third others = on_ok_weaker result (mail_named_three root name own old new first second third) others
 
 -- a call that takes no memory did this, if the store isn't stopped
