@@ -29,7 +29,7 @@ use Rattle.store_core.specs.declared.error.StepError.{StepError}
 use Rattle.store_core.specs.declared.error.StepError.TheVariants as step_error
 use Rattle.box_snapshot.specs.BoxFilled.{CanBeWritten, IsBoxFilled, entries_anew}
 use Rattle.box_snapshot.specs.Due.{is_due_at}
-use Rattle.box_snapshot.specs.Rewrites.{AreNamesSynced, Rewrites, SyncsMail}
+use Rattle.box_snapshot.specs.Rewrites.{AreNamesSynced, Rewrites, SyncsMailNames}
 use Rattle.box_snapshot.proofs.BoxFillLemmas.{anew_there, own_named}
 use Rattle.box_snapshot.proofs.DueLemmas.{IsOpenBox, due_box}
 use Rattle.box_snapshot.proofs.RewritesLemmas.{LeavesValue, call_rewrites, mail_named, names_after}
@@ -60,7 +60,7 @@ newer_then h v number generation s o below unmade is =
 
 -- ---- it is made
 
-mail_if_drafted : (name : FileName) (old new : Option History) (result : Result BoxDraftValue StepError) → IsLogName name → OnOk result (NamedButFor name old new) → OnOk result (Between SyncsMail old new)
+mail_if_drafted : (name : FileName) (old new : Option History) (result : Result BoxDraftValue StepError) → IsLogName name → OnOk result (NamedButFor name old new) → OnOk result (Between SyncsMailNames old new)
 mail_if_drafted name old new result is others = on_ok_weaker result (mail_named name old new is) others
 
 -- the name of its log

@@ -38,7 +38,7 @@ all_made : (mapped : MapMeaning) (m : BoxMeaning) → All (HasItsRecord mapped) 
 all_made mapped m records =
     All-append (λ (e : BoxEntry). All (HasItsRecord mapped) (row_made e)) (map row_entry m.rows) (if next_from 1 m.rows == m.next then [] else box.N m.next ∷ [])
     (All-map (λ (e : BoxEntry). All (HasItsRecord mapped) (row_made e)) row_entry m.rows
-        (All-weaker (HasItsRecord mapped) (λ (row : LogRow). All (HasItsRecord mapped) (row_made (row_entry row))) (λ row own. All-cons (HasItsRecord mapped) row [] own (All-nil (HasItsRecord mapped))) m.rows records))
+    (All-weaker (HasItsRecord mapped) (λ (row : LogRow). All (HasItsRecord mapped) (row_made (row_entry row))) (λ row own. All-cons (HasItsRecord mapped) row [] own (All-nil (HasItsRecord mapped))) m.rows records))
     (last (next_from 1 m.rows == m.next))
   where
     last : (t : Bool) → All (λ e. All (HasItsRecord mapped) (row_made e)) (if t then [] else box.N m.next ∷ [])

@@ -35,8 +35,8 @@ log_there mapped number [] logs m good records is = absurd (cc (let h : None ≡
 log_there mapped number (b ∷ bs) [] m good records is = absurd (cc (let h : None ≡ Some m = is in h))
 log_there mapped number (b ∷ bs) (l ∷ ls) m good records is = elim (cases_Bool (b.number == number)) [
   | inl here ↦
-    let found : Some (box_meaning l) ≡ Some m = sym (ap (λ (t : Bool). if t then Some (box_meaning l) else meaning_numbered number bs (map box_meaning ls)) here) ∙ is in
-    record { entries = l; good = good.0; records = records.0; means = cc found }
+      let found : Some (box_meaning l) ≡ Some m = sym (ap (λ (t : Bool). if t then Some (box_meaning l) else meaning_numbered number bs (map box_meaning ls)) here) ∙ is in
+      record { entries = l; good = good.0; records = records.0; means = cc found }
   | inr apart ↦ log_there mapped number bs ls m good.1 records.1 (sym (ap (λ (t : Bool). if t then Some (box_meaning l) else meaning_numbered number bs (map box_meaning ls)) apart) ∙ is)
 ]
 

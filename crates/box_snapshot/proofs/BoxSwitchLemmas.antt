@@ -37,7 +37,7 @@ use Rattle.store_core.specs.declared.error.StepError.{StepError}
 use Rattle.store_core.specs.declared.error.StepError.TheVariants as step_error
 use Rattle.store_core.specs.declared.store.OpenBox.{OpenBox}
 use Rattle.box_snapshot.specs.BoxFilled.{IsBoxFilled, OnlyLogsBut, entries_anew}
-use Rattle.box_snapshot.specs.Rewrites.{AreNamesSynced, IsBoxWritten, OnlyLogsInForce, Rewrites, SyncsMail}
+use Rattle.box_snapshot.specs.Rewrites.{AreNamesSynced, IsBoxWritten, OnlyLogsInForce, Rewrites, SyncsMailNames}
 use Rattle.box_snapshot.proofs.BoxFillLemmas.{anew_there, is_box_log}
 use Rattle.box_snapshot.proofs.DueLemmas.{IsOpenBox, open_in_map}
 use Rattle.box_snapshot.proofs.RewritesLemmas.{LeavesValue, mail_named_three, safe_always}
@@ -132,9 +132,9 @@ in_force_now k g name box (b ∷ bs) found is free =
     let head : P (box_changed (map_entry.G k g) b) = All-head P (box_changed (map_entry.G k g) b) (map (box_changed (map_entry.G k g)) bs) free in
     elim (cases_Bool (b.number == k.0)) [
       | inl here ↦
-        let same : b.number ≡ k.0 = equal_is b.number k.0 here in
-        let changed : box_changed (map_entry.G k g) b ≡ record b { generation = g } = cond-true (k.0 == b.number) (record b { generation = g }) b (eq-eqb k.0 b.number (sym same)) in
-        subst P changed head (ap (λ (n : ℕ). file.Box n g) same ∙ sym is)
+          let same : b.number ≡ k.0 = equal_is b.number k.0 here in
+          let changed : box_changed (map_entry.G k g) b ≡ record b { generation = g } = cond-true (k.0 == b.number) (record b { generation = g }) b (eq-eqb k.0 b.number (sym same)) in
+          subst P changed head (ap (λ (n : ℕ). file.Box n g) same ∙ sym is)
       | inr other ↦ in_force_now k g name box bs (sym (cond-false (b.number == k.0) (Some b) (find (λ (b : MapBox). b.number == k.0) bs) other) ∙ found) is
           (All-tail P (box_changed (map_entry.G k g) b) (map (box_changed (map_entry.G k g)) bs) free)
     ]

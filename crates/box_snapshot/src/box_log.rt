@@ -45,11 +45,7 @@ pub fn snapshot_box<D: Disk>(store: &mut Store<D>, mailbox: BoxNo) -> Result<(),
 }
 
 /// Puts a draft with all entries of a mailbox's log in its place.
-fn switched<D: Disk>(
-    store: &mut Store<D>,
-    mailbox: BoxNo,
-    draft: BoxDraft,
-) -> Result<(), StepError>
+fn switched<D: Disk>(store: &mut Store<D>, mailbox: BoxNo, draft: BoxDraft) -> Result<(), StepError>
     requires running { store.old.stopped ≡ false }
     requires filled { IsBoxFilled (D.history store.old.disk) (entries_anew mailbox.0 store.old) draft store.old }
     requires number { draft.number ≡ mailbox }

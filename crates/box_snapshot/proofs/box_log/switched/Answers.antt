@@ -35,5 +35,5 @@ returns-clause-only g c =
     let there = subst (λ (n : BoxNo). box_at v.map n.0 ≡ Some o.0.box) (sym c.requires.number) o.0.there in
     on_ok_three c.switch_box.result
     (λ taken others gone. only_switched (g.D.Disk.history v.disk) v c.switch_box.new.self c.args.mailbox draft (g.D.Disk.history v.disk) (g.D.Disk.history c.switch_box.new.self.disk) c.known_counts.ensures.store o.0 c.requires.number c.requires.filled.drafted.name taken e.same_log
-        (others o.0.box there) (gone o.0.box there))
+    (others o.0.box there) (gone o.0.box there))
     e.taken e.others e.gone
