@@ -1,3 +1,9 @@
+mod BoxDraftLemmas
+mod BoxEntryLemmas
+mod BoxFillLemmas
+mod BoxGroupLemmas
+mod BoxMeantLemmas
+mod BoxSwitchLemmas
 mod DueLemmas
 mod DueLogsLemmas
 mod MapEntryLemmas
