@@ -1,5 +1,5 @@
 -- A draft of a mailbox log that is made: it may be, and it has no entries.
-use Rattle.std.proofs.Common.{◌≡◌, ◌↔◌, ◌<◌, ◌≤◌, ◌+◌, ◌==◌, ℕ, Bool, true, false, List, [], find, length, Result, Ok, Err, IfOk, OnOk, Option, Some, All, refl, sym, ◌∙◌, ap, subst, arith}
+use Rattle.std.proofs.Common.{◌≡◌, ◌↔◌, ◌<◌, ◌+◌, ◌==◌, ℕ, true, false, [], Result, Ok, Err, IfOk, OnOk, Option, Some, refl, sym, ◌∙◌, ap, subst, arith}
 use Rattle.std.specs.Prelude.{IsErrOf, IsTrue, is_some}
 use Rattle.std.proofs.lemmas.Bool.{eq-eqb}
 use Rattle.std.proofs.lemmas.List.Elements.{All-contains, All-weaker}
@@ -14,7 +14,7 @@ use Rattle.model_kept.specs.Kept.{MailIsKept}
 use Rattle.model_lists.specs.Lists.{Lists}
 use Rattle.model_meaning.proofs.MapPlaceLemmas.{equal_is}
 use Rattle.model_meaning.specs.BoxMeaning.{BoxMeaning, box_meaning}
-use Rattle.model_meaning.specs.MapMeaning.{MapBox, MapMeaning, box_at}
+use Rattle.model_meaning.specs.MapMeaning.{MapBox, MapMeaning}
 use Rattle.model_meaning.specs.Sound.{IsSoundMapBox}
 use Rattle.model_octets.proofs.PairLemmas.{IsOnly}
 use Rattle.model_octets.proofs.SearchLemmas.{found_one}
@@ -27,7 +27,7 @@ use Rattle.store_core.specs.Running.{IsStore}
 use Rattle.store_core.specs.Value.{StoreValue, list_numbered}
 use Rattle.store_core.specs.declared.error.StepError.{StepError}
 use Rattle.store_core.specs.declared.error.StepError.TheVariants as step_error
-use Rattle.box_snapshot.specs.BoxFilled.{CanBeWritten, IsBoxFilled, entries_anew}
+use Rattle.box_snapshot.specs.BoxFilled.{CanBeWrittenAnew, IsBoxFilled, entries_anew}
 use Rattle.box_snapshot.specs.Due.{is_due_at}
 use Rattle.box_snapshot.specs.Rewrites.{AreNamesSynced, Rewrites, SyncsMailNames}
 use Rattle.box_snapshot.proofs.BoxFillLemmas.{anew_there, own_named}
@@ -94,7 +94,7 @@ box_filled_first old new w number generation draft d empty nothing counted same 
 
 -- ---- with all entries it means what the log means
 
-pub means_anew : {D : Type 0} (v w : StoreValue D) (number : ℕ) (m n : BoxMeaning) → LeavesValue v w → list_numbered v number ≡ Some m → CanBeWritten v.map m → n ≡ box_meaning (entries_anew number w) → list_numbered v number ≡ Some n
+pub means_anew : {D : Type 0} (v w : StoreValue D) (number : ℕ) (m n : BoxMeaning) → LeavesValue v w → list_numbered v number ≡ Some m → CanBeWrittenAnew v.map m → n ≡ box_meaning (entries_anew number w) → list_numbered v number ≡ Some n
 means_anew v w number m n same is can means =
     let anew : entries_anew number w ≡ entries_anew number v = ap (λ (s : StoreValue _). entries_anew number s) same in
     let there = anew_there number v (Some m) m (sym is) refl in

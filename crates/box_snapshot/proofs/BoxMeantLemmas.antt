@@ -1,5 +1,5 @@
 -- What a mailbox's log means in an open store, and the counts that a draft with the same meaning leaves.
-use Rattle.std.proofs.Common.{inl, inr, ◌≡◌, ◌≤◌, ◌+◌, ◌==◌, ℕ, Bool, List, [], ◌∷◌, length, map, Option, Some, None, All, refl, sym, ◌∙◌, ap, subst, arith, sum_by, count_by, if◌then◌else◌}
+use Rattle.std.proofs.Common.{inl, inr, ◌≡◌, ◌≤◌, ◌+◌, ◌==◌, ℕ, Bool, List, [], ◌∷◌, map, Option, Some, None, All, sym, ◌∙◌, ap, subst, arith, sum_by, count_by, if◌then◌else◌}
 use Rattle.std.proofs.lemmas.Bool.{cases_Bool}
 use Rattle.std.proofs.lemmas.List.Elements.{All-weaker}
 use Rattle.std.specs.List.{AllByRecursion}
@@ -16,11 +16,11 @@ use Rattle.model_store.specs.Opening.{AreBoxEntries, HasItsRecord, listed_of}
 use Rattle.store_core.proofs.BoxAppendLemmas.{store_sound}
 use Rattle.store_core.proofs.DueLemmas.{listed_meant}
 use Rattle.store_core.proofs.ReplacedLogLemmas.{meanings_stay}
-use Rattle.store_core.specs.Drafts.{BoxDraftValue, listed_with, meanings_with}
+use Rattle.store_core.specs.Drafts.{BoxDraftValue, listed_with}
 use Rattle.store_core.specs.Dues.{due_at, leak_at}
 use Rattle.store_core.specs.Running.{IsStore}
 use Rattle.store_core.specs.Value.{StoreValue, indexes_of, list_numbered}
-use Rattle.box_snapshot.specs.BoxFilled.{CanBeWritten}
+use Rattle.box_snapshot.specs.BoxFilled.{CanBeWrittenAnew}
 
 -- a log of good entries that means this, each of whose messages has its record
 record IsGoodLog (mapped : MapMeaning) (m : BoxMeaning) : Type 0 where
@@ -41,7 +41,7 @@ log_there mapped number (b ∷ bs) (l ∷ ls) m good records is = elim (cases_Bo
 ]
 
 pub can_be_written : {D : Type 0} (h : Option History) (v : StoreValue D) (number : ℕ) (m : BoxMeaning) → IsStore h v → ((entries : List BoxEntry) → AllBoxFit [] entries → AllByRecursion BoxInRange entries → IsSoundBox (box_meaning entries))
-    → ((n : BoxMeaning) → IsSoundBox n → IsRewrittenBox n (box_snapshot n)) → list_numbered v number ≡ Some m → CanBeWritten v.map m
+    → ((n : BoxMeaning) → IsSoundBox n → IsRewrittenBox n (box_snapshot n)) → list_numbered v number ≡ Some m → CanBeWrittenAnew v.map m
 can_be_written h v number m s sound anew is =
     let log = log_there v.map number v.map.boxes s.logs m s.good.box_entries
     (subst (λ (mapped : MapMeaning). AllByRecursion (λ log. All (HasItsRecord mapped) (rows_after log)) s.logs) (sym s.map_is) s.good.records)
