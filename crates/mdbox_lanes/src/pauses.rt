@@ -92,6 +92,10 @@ impl Between {
 }
 
 impl Pause for Between {
+    fn turns(&self) -> u32 {
+        1
+    }
+
     fn before(&self, lane: u32, event: u64) {
         match (lane, event) {
             (1, 3) => {
@@ -179,6 +183,10 @@ fn bit_of(lane: u32) -> u64 {
 }
 
 impl Pause for Ordered {
+    fn turns(&self) -> u32 {
+        1
+    }
+
     fn before(&self, lane: u32, _event: u64) {
         self.next.wait(u64::from(lane));
     }

@@ -53,6 +53,12 @@ turn_starts lane room Idle before after (found, s, e) = grown_by before found af
 turn_starts lane room Worked before after (found, s, e) = grown_by before found after (turn_number (turn_of lane false)) s e
 turn_starts lane room NoMemory before after h = h.0
 
+-- what a turn leaves of what was seen before
+pub turn_grown : {D : Type 0} → (lane : ℕ) (t : Turned) (old new : HandedValue D) (before : List ℕ) → StartsWith (turn_numbers old.world.turns) before → IsAdvanced lane t old new → StartsWith (turn_numbers new.world.turns) before
+turn_grown lane Idle old new before s a = grown_by before (turn_numbers old.world.turns) (turn_numbers new.world.turns) (turn_number (turn_of lane true)) s (numbers_more old.world.turns new.world.turns (turn_of lane true) a)
+turn_grown lane Worked old new before s a = grown_by before (turn_numbers old.world.turns) (turn_numbers new.world.turns) (turn_number (turn_of lane false)) s (numbers_more old.world.turns new.world.turns (turn_of lane false) a)
+turn_grown lane NoMemory old new before s a = subst (λ x. StartsWith x before) (ap (map turn_number) (sym a.0)) s
+
 turn_marks : (lane room : ℕ) (t : Turned) (before after : List ℕ) → (t ≡ Idle) ⊎ (t ≡ NoMemory) → HasTakenTurn lane room t before after → HasMarkOrIsFull (turn_number (turn_of lane true)) room after
 turn_marks lane room t before after is turn = ⊎_elim
     (λ e. let h : HasTakenTurn lane room Idle before after = subst (λ (x : Turned). HasTakenTurn lane room x before after) e turn in mark_is_last (turn_number (turn_of lane true)) room h.0 after h.2)

@@ -2,10 +2,13 @@
 
 /// What a lane's worker calls outside its turns, so that a test can hold it back. It has no clause.
 pub trait Pause {
-    /// Before each turn of a lane, with the turn's number in that lane, counted from 1.
+    /// How many turns a lane has one after another, at the most: 1 to 8. Nothing is called between them.
+    fn turns(&self) -> u32;
+
+    /// Before them, with how often the lane has had turns, this time too.
     fn before(&self, lane: u32, event: u64);
 
-    /// After it, with the lane's number of replies.
+    /// After them, with the lane's number of replies.
     fn after(&self, lane: u32, replies: u64);
 }
 
@@ -14,6 +17,10 @@ pub trait Pause {
 pub struct NoPause;
 
 impl Pause for NoPause {
+    fn turns(&self) -> u32 {
+        8
+    }
+
     fn before(&self, lane: u32, event: u64) {
         let _ = (lane, event);
     }

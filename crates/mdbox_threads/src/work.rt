@@ -13,13 +13,19 @@ use std::thread;
 use std::thread::Threads;
 use turn_lock::{TurnLock, TurnSeat};
 
-/// One turn of a lane: what it came to, and how many replies the lane has then.
-fn take_turn<R: Wait, D: Disk>(
+/// After how many turns a lane ends with the reply to its request.
+const ENOUGH: u32 = 4;
+
+/// Turns of a lane, one after another, so many at the most: what the last of them came to, and how many replies the lane has then. Memory
+/// that others wrote is slow to reach, so a lane has more than one, and ends with a reply if it can: a request that is done at once leaves
+/// less behind.
+fn take_turns<R: Wait, D: Disk>(
     rt: &R,
     lock: &TurnLock<Handed<D>>,
     seat: &mut TurnSeat<Handed<D>>,
     first: &Snapshot<World<D>>,
     lane: u32,
+    most: u32,
 ) -> (Turned, u64)
     requires ready { IsReadySeat lock.now first.now.value seat.old }
     requires lane { (1 ≤ lane) × (lane ≤ length first.now.value.rows) }
@@ -28,10 +34,22 @@ fn take_turn<R: Wait, D: Disk>(
     ensures seen { HasTakenTurn lane first.now.value.turn_room result.0 (seen_by seat.old) (seen_by seat.new) }
 {
     let mut handed = lock.take(rt, seat);
-    let turned = handed.advance(lane);
-    let replies = handed.replied(lane);
-    lock.give(seat, handed);
-    (turned, replies)
+    let mut replies = handed.replied(lane);
+    let mut had = 0u32;
+    'turns: loop {
+        let earlier = replies;
+        let turned = handed.advance(lane);
+        replies = handed.replied(lane);
+        had = had.saturating_add(1);
+        let ends = had >= most || had >= ENOUGH && replies > earlier;
+        match turned {
+            Turned::Worked if !ends && seat.more() > 0 => handed = lock.go_on(seat, handed),
+            _ => {
+                lock.give(seat, handed);
+                return (turned, replies);
+            }
+        }
+    }
 }
 
 /// A lane's worker: it takes turns until the lane has no request left, or there is no memory for a turn.
@@ -51,7 +69,7 @@ fn work_away<R: Wait, D: Disk, P: Pause>(
     for _ in rt.forever() {
         event = event.wrapping_add(1);
         pause.before(lane, event);
-        let (turned, replies) = take_turn(rt, lock, seat, first, lane);
+        let (turned, replies) = take_turns(rt, lock, seat, first, lane, pause.turns());
         pause.after(lane, replies);
         match turned {
             Turned::Worked => {}

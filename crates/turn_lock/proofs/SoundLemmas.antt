@@ -24,6 +24,14 @@ module _ {W C : Type 0} (tells : Tells W C) (key : W) where
   more_ended (Waits k t) ended drawn drawn' now now' le s not h = let a = h.3 in let b = h.4 in let ne : t ≢ ended = not in (h.0, starts_with_each_along now' now (k.seen ∷ k.told) s h.1, h.2, omega arith, omega arith)
   more_ended (HasTurn k t found) ended drawn drawn' now now' le s not h = absurd (not h.3)
 
+  -- the trace is longer, and this seat hasn't the turn
+  pub more_seen : (p : Place C) (ended drawn drawn' : ℕ) (now now' : List ℕ) → drawn ≤ drawn' → StartsWith now' now → (HasTicket ended p → ⊥)
+      → IsSoundSeat tells key ended drawn now p → IsSoundSeat tells key ended drawn' now' p
+  more_seen Spent ended drawn drawn' now now' le s not h = tt
+  more_seen (Free k) ended drawn drawn' now now' le s not h = (h.0, starts_with_each_along now' now (k.seen ∷ k.told) s h.1)
+  more_seen (Waits k t) ended drawn drawn' now now' le s not h = let b = h.4 in (h.0, starts_with_each_along now' now (k.seen ∷ k.told) s h.1, h.2, h.3, omega arith)
+  more_seen (HasTurn k t found) ended drawn drawn' now now' le s not h = absurd (not h.3)
+
   pub below_drawn : (q : Place C) (ended drawn t : ℕ) (now : List ℕ) → ended < drawn → IsSoundSeat tells key ended drawn now q → HasTicket t q → t < drawn
   below_drawn Spent ended drawn t now le h e = absurd e
   below_drawn (Free k) ended drawn t now le h e = absurd e

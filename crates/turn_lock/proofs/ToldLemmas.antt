@@ -5,7 +5,7 @@ use Rattle.turn_lock.specs.declared.place.Known.{Known}
 use Rattle.turn_lock.specs.declared.place.Place.{Place}
 use Rattle.turn_lock.specs.declared.place.Place.TheVariants.{Free, Waits, HasTurn}
 use Rattle.turn_lock.specs.LockRule.{Tells, Suits, GoesOnFrom, StartsWith, in_word}
-use Rattle.turn_lock.specs.LockSteps.{having_seen, drawn_from, looked_from, ended_from}
+use Rattle.turn_lock.specs.LockSteps.{having_seen, drawn_from, looked_from, went_on_from, ended_from}
 use Rattle.turn_lock.specs.Seats.{KnowsAt, Knows, IsOneTurnAtMost, found_at_place}
 use Rattle.turn_lock.proofs.TraceLemmas.{one_turn_starts_with}
 
@@ -42,6 +42,10 @@ module _ {W C : Type 0} (tells : Tells W C) where
   pub hit : (m m' : Sat) (n t : ℕ) (k : Known C) → m ≡ (Waits k t, []) → looked_from tells m.1 n m.0 m' → n ≡ in_word t
       → (w : W) × (m' ≡ (HasTurn k t (tells.trace w), (0, Some w) ∷ [])) × Suits tells w k × GoesOnFrom (tells.trace w) k
   hit m m' n t k e play is = let p : looked_from tells [] n (Waits k t) m' = subst (λ (x : Sat). looked_from tells x.1 n x.0 m') e play in p.1 is
+
+  pub went_on : (m m' : Sat) (k : Known C) (t : ℕ) (found : List ℕ) (w : W) → m ≡ (HasTurn k t found, (0, Some w) ∷ []) → went_on_from tells m.1 m.0 m'
+      → m' ≡ (HasTurn (having_seen (tells.trace w) k) t (tells.trace w), (0, Some w) ∷ [])
+  went_on m m' k t found w e play = subst (λ (x : Sat). went_on_from tells x.1 x.0 m') e play
 
   pub ended : (m m' : Sat) (k : Known C) (t : ℕ) (found : List ℕ) (w : W) → m ≡ (HasTurn k t found, (0, Some w) ∷ []) → ended_from tells m.1 m.0 m' → m' ≡ (Free (having_seen (tells.trace w) k), [])
   ended m m' k t found w e play = subst (λ (x : Sat). ended_from tells x.1 x.0 m') e play

@@ -4,15 +4,15 @@ use mathlib.Core.Logic.{dite}
 use mathlib.Core.Option.{none, some, some-injective}
 use native.Mathlib.Decide.{ℕ_discrete}
 use lib.ListN.{get_elem?}
-use Rattle.atomic_table.specs.Table.{State, Me, step, Act, Valid, keeps, takes, gives, stepped, carried_after, Allows}
+use Rattle.atomic_table.specs.Table.{State, Me, step, Act, Valid, keeps, takes, gives, chain, stepped, carried_after, Allows}
 use Rattle.atomic_table.proofs.Lists.{one_turn, set_again}
 use Rattle.turn_lock.specs.declared.place.Known.{Known}
 use Rattle.turn_lock.specs.declared.place.Place.{Place}
 use Rattle.turn_lock.specs.declared.place.Place.TheVariants.{Free, Waits, HasTurn}
 use Rattle.turn_lock.specs.LockRule.{StartsWith, Tells, in_word, parts_at, tickets_at, IsAtTurn, Suits, GoesOnFrom, IsSoundSeat, HasWorld, IsInTurns}
-use Rattle.turn_lock.specs.LockSteps.{having_seen, draws_ticket, looks_for_turn, ends_turn, calls_next}
+use Rattle.turn_lock.specs.LockSteps.{having_seen, draws_ticket, looks_for_turn, goes_on, ends_turn, calls_next}
 use Rattle.turn_lock.proofs.PlaceLemmas.{apart_set, each_set, out_set}
-use Rattle.turn_lock.proofs.SoundLemmas.{more_drawn, more_ended, below_drawn, few, some_out, turn_ticket, at_home}
+use Rattle.turn_lock.proofs.SoundLemmas.{more_drawn, more_ended, more_seen, below_drawn, few, some_out, turn_ticket, at_home}
 use Rattle.turn_lock.proofs.SumLemmas.{sum_set, set_there}
 use Rattle.turn_lock.proofs.TraceLemmas.{starts_with_each_along, starts_with_itself}
 
@@ -122,6 +122,35 @@ module _ {W C : Type 0} (tells : Tells W C) (key : W) where
         refl,
       )
 
+  pub going_on_keeps : (slots id : ℕ) (k : Known C) (t : ℕ) (found : List ℕ) (w : W) → Suits tells w k → StartsWith (tells.trace w) found
+      → Allows (IsInTurns tells key) slots id (HasTurn k t found, (0, Some w) ∷ []) 1 (λ n. n) (goes_on tells (step slots 1 0 0 none) (HasTurn k t found, (0, Some w) ∷ []))
+  going_on_keeps slots id k t found w suits longer s r _ at _ =
+      let mine = r.each id (HasTurn k t found) at in
+      let now' : List ℕ = tells.trace w in
+      let p : Place C = HasTurn (having_seen now' k) t now' in
+      let more = sum_set tickets_at s.views id (HasTurn k t found) p at in
+      let same = sum_set parts_at s.views id (HasTurn k t found) p at in
+      let t' : ℕ = r.ended + sum_by tickets_at (set s.views id p) in
+      let drawn : ℕ = r.ended + sum_by tickets_at s.views in
+      let along : StartsWith now' r.trace = subst (StartsWith now') mine.4 longer in (
+        p,
+        chain gives (takes 0 (Some w)),
+        (tt, ⊎_elim (λ h. ap (λ hs. get_elem? (set hs 0 (some (Some w))) 0) h.1) (λ o. ap (λ hs. get_elem? (set hs 0 (some (Some w))) 0) o.0) r.slot),
+        record {
+          ended = r.ended;
+          trace = now';
+          sleeping = r.sleeping;
+          words = ap (λ ws. set ws 1 (get_or ws 1 0)) r.words ∙ ap (λ (n : ℕ). in_word n ∷ in_word r.ended ∷ r.sleeping) (let go : drawn ≡ t' = omega arith in go);
+          whole = (let x = r.whole in omega arith);
+          slot = inr (⊎_elim (λ h. ap (λ hs. set (set hs 0 (some (Some w))) 0 none) h.1) (λ o. ap (λ hs. set (set hs 0 (some (Some w))) 0 none) o.0) r.slot, (id, p, set_there s.views id (HasTurn k t found) p at, tt));
+          each = each_set (IsSoundSeat tells key r.ended t' now') s.views id p
+              (λ j q ne e. more_seen tells key q r.ended drawn t' r.trace now' (omega arith) along (λ h. ne (r.apart j id r.ended q (HasTurn k t found) e at h mine.3)) (r.each j q e))
+              (mine.0, (starts_with_itself now', (starts_with_each_along now' r.trace k.told along mine.1.1)), mine.2, mine.3, refl);
+          apart = apart_set s.views id p r.apart (λ j u q ne e h g. ne (sym (r.apart id j u (HasTurn k t found) q at e h g)));
+        },
+        refl,
+      )
+
   -- a word on which seats sleep may change as it will
   pub calling_keeps_there : (slots id v : ℕ) (p : Place C) (c : List (ℕ × Option W)) → Allows (IsInTurns tells key) slots id (p, c) (suc (suc v)) (λ n. in_word (n + 1)) (calls_next (step slots (suc (suc v)) 1 0 none) (p, c))
   calling_keeps_there slots id v p c s r _ at _ =
@@ -156,6 +185,10 @@ module _ {W C : Type 0} (tells : Tells W C) (key : W) where
   pub ends_keep : (slots id : ℕ) (m : Sat) (k : Known C) (t : ℕ) (found : List ℕ) (w : W) → m ≡ (HasTurn k t found, (0, Some w) ∷ []) → Suits tells w k → StartsWith (tells.trace w) found
       → Allows (IsInTurns tells key) slots id m 1 (λ n. in_word (n + 1)) (ends_turn tells (step slots 1 1 0 none) m)
   ends_keep slots id m k t found w e suits longer = subst (λ (x : Sat). Allows (IsInTurns tells key) slots id x 1 (λ n. in_word (n + 1)) (ends_turn tells (step slots 1 1 0 none) x)) (sym e) (ending_keeps slots id k t found w suits longer)
+
+  pub goes_on_keep : (slots id : ℕ) (m : Sat) (k : Known C) (t : ℕ) (found : List ℕ) (w : W) → m ≡ (HasTurn k t found, (0, Some w) ∷ []) → Suits tells w k → StartsWith (tells.trace w) found
+      → Allows (IsInTurns tells key) slots id m 1 (λ n. n) (goes_on tells (step slots 1 0 0 none) m)
+  goes_on_keep slots id m k t found w e suits longer = subst (λ (x : Sat). Allows (IsInTurns tells key) slots id x 1 (λ n. n) (goes_on tells (step slots 1 0 0 none) x)) (sym e) (going_on_keeps slots id k t found w suits longer)
 
   pub calls_keep : (slots id w : ℕ) (m : Sat) → 2 ≤ w → Allows (IsInTurns tells key) slots id m w (λ n. in_word (n + 1)) (calls_next (step slots w 1 0 none) m)
   calls_keep slots id zero m two = absurd (omega arith)

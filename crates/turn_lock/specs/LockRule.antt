@@ -1,5 +1,5 @@
 -- The rule of a lock's table.
--- Word 0 counts the tickets that were drawn, word 1 the turns that have ended, both modulo 2 ^ 64. Seats sleep on the words after
+-- Word 0 counts the tickets that were drawn, word 1 those that are done, both modulo 2 ^ 64. Seats sleep on the words after
 -- these, of which nothing is said. The one slot has the world, except while a seat has the turn.
 use Rattle.std.specs.Prelude.{◌≡◌, ℕ, ◌+◌, ◌%◌, ◌<◌, ◌≤◌, ◌⊎◌, Bool, List, [], ◌∷◌, ◌++◌, Option, Some, sum_by}
 use mathlib.Core.Option.{none, some}
@@ -66,7 +66,7 @@ first_seat tells world = Free (record { charter = tells.charter world; finished 
 abbrev pub GoesOnFrom : {C : Type 0} → List ℕ → Known C → Type 0
 GoesOnFrom trace k = StartsWithEach trace (k.seen ∷ k.told)
 
--- What holds of each seat, where the lock was made with this world, so many turns have ended, so many tickets are drawn, and the
+-- What holds of each seat, where the lock was made with this world, so many tickets are done, so many drawn, and the
 -- trace is this one.
 abbrev pub IsSoundSeat : {W C : Type 0} → Tells W C → W → ℕ → ℕ → List ℕ → Place C → Type 0
 IsSoundSeat tells first ended drawn trace Spent = Unit {0}

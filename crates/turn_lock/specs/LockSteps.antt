@@ -45,6 +45,18 @@ ended_from tells slots _ new = Unit {0}
 abbrev pub ends_turn : {W C : Type 0} → Tells W C → Step (Option W) → Me (Option W) (Place C) → ℕ → Me (Option W) (Place C) → Type 0
 ends_turn tells st old n new = ended_from tells old.1 old.0 new
 
+abbrev pub went_on_with : {W C : Type 0} → Tells W C → Known C → ℕ → List (ℕ × Option W) → Me (Option W) (Place C) → Type 0
+went_on_with tells k t ((i, Some world) ∷ slots) new = new ≡ (HasTurn (having_seen (tells.trace world) k) t (tells.trace world), (0, Some world) ∷ slots)
+went_on_with tells k t _ new = Unit {0}
+
+-- The seat has another turn with its ticket. It has seen the trace of the world in the slot, which goes home and is taken again.
+abbrev pub went_on_from : {W C : Type 0} → Tells W C → List (ℕ × Option W) → Place C → Me (Option W) (Place C) → Type 0
+went_on_from tells slots (HasTurn k t found) new = went_on_with tells k t slots new
+went_on_from tells slots _ new = Unit {0}
+
+abbrev pub goes_on : {W C : Type 0} → Tells W C → Step (Option W) → Me (Option W) (Place C) → ℕ → Me (Option W) (Place C) → Type 0
+goes_on tells st old n new = went_on_from tells old.1 old.0 new
+
 abbrev pub with_parts : {C : Type 0} → ℕ → Known C → Known C
 with_parts n k = record { charter = k.charter; finished = k.finished; parts = n; seen = k.seen; told = k.told }
 

@@ -45,6 +45,10 @@ found_by s = found_at_place s.seat.me.0
 abbrev pub parts_with : {W C : Type 0} → TurnSeat W C → ℕ
 parts_with s = parts_at s.seat.me.0
 
+-- how many turns more the seat may have with its ticket
+abbrev pub more_turns : {W C : Type 0} → TurnSeat W C → ℕ
+more_turns s = s.more
+
 -- the seat's charter is this one, and its worlds are finished or not, as this says
 abbrev pub IsUnder : {W C : Type 0} → C → Bool → TurnSeat W C → Type 0
 IsUnder charter finished s = KnowsAt charter finished s.seat.me.0

@@ -23,11 +23,13 @@ pub fn close_lock<W: Charter + Send>(lock: TurnLock<W>, seats: Seq<TurnSeat<W>>)
     let TurnSeat {
         seat: mut first,
         patience: _,
+        more: _,
     } = last;
     while let Some(next) = seats.pop() {
         let TurnSeat {
             seat: other,
             patience: _,
+            more: _,
         } = next;
         table.shared.join_seat::<Joined>(&mut first, other);
     }

@@ -20,6 +20,8 @@ pub struct TurnLock<W: Charter> {
 pub struct TurnSeat<W: Charter> {
     pub(crate) seat: Seat<Option<W>, Place<W::Terms>>,
     pub(crate) patience: Patience,
+    /// How many turns more it may have with its ticket.
+    pub(crate) more: u32,
 }
 
 /// There was no memory for a lock.

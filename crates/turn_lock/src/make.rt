@@ -37,11 +37,13 @@ pub fn make_lock<W: Charter + Send>(
                 dealt.push_reserved(TurnSeat {
                     seat,
                     patience: Patience::full(),
+                    more: 0,
                 });
             }
             dealt.push_reserved(TurnSeat {
                 seat: first,
                 patience: Patience::full(),
+                more: 0,
             });
             Ok((TurnLock { table }, Seq::of(dealt)))
         }

@@ -1,7 +1,7 @@
 // How long a seat looks for its turn before it sleeps.
 
-/// How often a seat looks during a turn of another at the most: for some 45 microseconds.
-const MOST_LOOKS: u32 = 10_000;
+/// How often a seat looks while another has its turns, at the most: for some 180 microseconds.
+const MOST_LOOKS: u32 = 40_000;
 
 /// For how many turns a seat rests at the most.
 const MOST_RESTS: u32 = 63;

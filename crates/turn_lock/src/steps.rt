@@ -38,6 +38,17 @@ impl<W: Charter> Play<Option<W>, Place<W::Terms>> for Look<W> {
     ghost then = { looks_for_turn (record { charter = W.charter; trace = W.trace; finished = W.finished }) };
 }
 
+/// A seat that has the turn goes on with another: the slot goes home, and is taken again.
+pub struct GoOn<W> {
+    marker: PhantomData<W>,
+}
+
+impl<W: Charter> Play<Option<W>, Place<W::Terms>> for GoOn<W> {
+    ghost use Rattle.turn_lock.specs.LockSteps.{goes_on};
+
+    ghost then = { goes_on (record { charter = W.charter; trace = W.trace; finished = W.finished }) };
+}
+
 /// A seat ends its turn.
 pub struct End<W> {
     marker: PhantomData<W>,

@@ -1,28 +1,31 @@
 // How a seat takes its turn, and gives it back.
-ghost use Rattle.std.specs.Prelude.{◌≡◌, ◌<◌, ◌≤◌};
+ghost use Rattle.std.specs.Prelude.{◌≡◌, ◌<◌, ◌≤◌, ◌+◌};
 ghost use Rattle.turn_lock.specs.LockRule.{StartsWith};
-ghost use Rattle.turn_lock.specs.Seats.{IsAtWork, IsFreeSeat, IsOneTurnAtMost, IsUnder, StaysUnder, found_by, seen_by};
+ghost use Rattle.turn_lock.specs.Seats.{IsAtWork, IsFreeSeat, IsOneTurnAtMost, IsUnder, StaysUnder, found_by, more_turns, seen_by};
 
 use crate::charter::Charter;
 use crate::lock::{TurnLock, TurnSeat};
-use crate::steps::{Call, Draw, End, Look};
+use crate::steps::{Call, Draw, End, GoOn, Look};
 use std::hint::spin_loop;
 use std::sync::Wait;
 
 /// The word that counts tickets.
 const DRAWN: usize = 0;
 
-/// The word that counts the turns that have ended, which is the ticket whose turn it is.
+/// The word that counts the tickets that are done, and so is the ticket whose turn it is.
 const ENDED: usize = 1;
 
 /// The first of the words that seats sleep on. There are as many as there may be seats, so no two that wait have the same.
 const SLEEPS: usize = 2;
 
-/// How many turns before its own a seat's turn is near.
-const NEAR: u64 = 2;
+/// How many tickets before its own a seat's turn is near.
+const NEAR: u64 = 1;
 
-/// How many turns before its own a seat is woken.
-const AHEAD: u64 = 3;
+/// How many tickets before its own a seat is woken.
+const AHEAD: u64 = 2;
+
+/// How many turns a seat may have with a ticket after the first, before the seat with the next ticket has one.
+const MORE: u32 = 7;
 
 /// The slot of the world.
 const WORLD: usize = 0;
@@ -34,6 +37,7 @@ impl<W: Charter> TurnLock<W> {
         ensures turn { IsAtWork self.now seat.new × (found_by seat.new ≡ W.trace result) }
         ensures charter { IsUnder (W.charter result) (W.finished result) seat.old }
         ensures trace { StartsWith (W.trace result) (seen_by seat.old) }
+        ensures more { more_turns seat.new ≡ 7 }
         ensures same { StaysUnder seat.old seat.new }
     {
         let table = &self.table.shared;
@@ -46,6 +50,7 @@ impl<W: Charter> TurnLock<W> {
             let ended = table.load::<Look<W>>(&mut seat.seat, ENDED);
             if ended == ticket {
                 seat.patience.learn(looks);
+                seat.more = MORE;
                 let Some(world) = table.exchange(&mut seat.seat, WORLD, None) else {
                     unreachable!()
                 };
@@ -65,7 +70,32 @@ impl<W: Charter> TurnLock<W> {
         unreachable!()
     }
 
-    /// Gives the world back, and ends the turn.
+    /// Ends a turn, and takes the world for another with the same ticket.
+    pub fn go_on(&self, seat: &mut TurnSeat<W>, world: W) -> W
+        requires turn { IsAtWork self.now seat.old }
+        requires more { 0 < more_turns seat.old }
+        requires charter { IsUnder (W.charter world) (W.finished world) seat.old }
+        requires trace { IsOneTurnAtMost (found_by seat.old) (W.trace world) }
+        ensures turn { IsAtWork self.now seat.new × (found_by seat.new ≡ W.trace result) }
+        ensures world { result ≡ world }
+        ensures seen { seen_by seat.new ≡ W.trace world }
+        ensures more { more_turns seat.new + 1 ≡ more_turns seat.old }
+        ensures same { StaysUnder seat.old seat.new }
+    {
+        let table = &self.table.shared;
+        match table.exchange(&mut seat.seat, WORLD, Some(world)) {
+            None => {}
+            Some(_) => unreachable!(),
+        }
+        table.load::<GoOn<W>>(&mut seat.seat, ENDED);
+        seat.more -= 1;
+        let Some(world) = table.exchange(&mut seat.seat, WORLD, None) else {
+            unreachable!()
+        };
+        world
+    }
+
+    /// Gives the world back, and ends the turn and the ticket.
     pub fn give(&self, seat: &mut TurnSeat<W>, world: W)
         requires turn { IsAtWork self.now seat.old }
         requires charter { IsUnder (W.charter world) (W.finished world) seat.old }
@@ -111,4 +141,13 @@ fn sleeping_word(ticket: u64) -> usize
     ensures { (2 ≤ result) × (result < 66) }
 {
     SLEEPS + (ticket % 64) as usize
+}
+
+impl<W: Charter> TurnSeat<W> {
+    /// How many turns more a seat that has one may have, before the seat with the next ticket has one.
+    pub fn more(&self) -> u32
+        ensures { result ≡ more_turns self.now }
+    {
+        self.more
+    }
 }
