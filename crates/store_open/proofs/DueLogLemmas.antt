@@ -3,7 +3,7 @@ use Rattle.std.proofs.Common.{◌≡◌, ◌⊎◌, inl, inr, ℕ, Bool, true, f
 use Rattle.std.specs.Prelude.{◌↔◌, IfErr, IfOk, IsErrOf}
 use Rattle.std.proofs.lemmas.Bool.{cases_Bool}
 use Rattle.box_snapshot.specs.Due.{NoLogDue}
-use Rattle.box_snapshot.specs.Rewrites.{AreNamesSynced, LeavesNoOldLogs, SyncsMail}
+use Rattle.box_snapshot.specs.Rewrites.{AreNamesSynced, LeavesNoOldLogs, SyncsMailNames}
 use Rattle.disk_model.proofs.BetweenLemmas.{between-back, between-if, between-map, between-then}
 use Rattle.disk_model.proofs.MomentLemmas.{each_image-then, if_told-both}
 use Rattle.disk_model.specs.Disk.{Between, DiskState, EachImage, Faults, Files, History, IfTold}
@@ -179,13 +179,13 @@ gone_anew : {D : Type 0} → (h : D → Option History) (old new : StoreValue D)
 gone_anew h old new k g before now gone =
     between-map _ _ (h old.disk) (h new.disk) (λ a b leaves all. subst (λ (i : ℕ). NoOthers i new.map b) now (leaves (subst (λ (i : ℕ). NoOthers i old.map a) (sym before) (unneeded_gone k old.map a all)))) gone
 
-names_anew : {D : Type 0} → (h : D → Option History) (old new : StoreValue D) (first : Option History) (k g : ℕ) → old.map_log.name ≡ file.Map k → new.map_log.name ≡ file.Map g → IsSwept k old.map first (h old.disk) → Between SyncsMail (h old.disk) (h new.disk)
+names_anew : {D : Type 0} → (h : D → Option History) (old new : StoreValue D) (first : Option History) (k g : ℕ) → old.map_log.name ≡ file.Map k → new.map_log.name ≡ file.Map g → IsSwept k old.map first (h old.disk) → Between SyncsMailNames (h old.disk) (h new.disk)
     → (new ≡ old) ⊎ IfTold (h new.disk) AreNamesSynced → NamesSynced g new.map first (h new.disk)
 names_anew {D} h old new first k g before now swept mail (inl same) =
     let one : k ≡ g = same_generation k g (sym before ∙ sym (ap (λ (s : StoreValue D). s.map_log.name) same) ∙ now) in
     subst (λ (i : ℕ). NamesSynced i new.map first (h new.disk)) one (subst (λ (s : StoreValue D). NamesSynced k s.map first (h s.disk)) (sym same) swept.names)
 names_anew {D} h old new first k g before now swept mail (inr synced) =
-    names_synced g new.map first (h new.disk) (λ a b. Unit {0}) (between-then _ SyncsMail (λ a b. Unit {0}) first (h old.disk) (h new.disk) (λ a b c carried m. tt) swept.reads mail) synced
+    names_synced g new.map first (h new.disk) (λ a b. Unit {0}) (between-then _ SyncsMailNames (λ a b. Unit {0}) first (h old.disk) (h new.disk) (λ a b c carried m. tt) swept.reads mail) synced
 
 pub swept_anew : {D : Type 0} → (h : D → Option History) (old : StoreValue D) (r : Answer D) (first : Option History) (k : ℕ) → WritesDueLogs h old r → old.map_log.name ≡ file.Map k → IsSwept k old.map first (h old.disk)
     → IfOk r (λ store. (generation : ℕ) × (store.map_log.name ≡ file.Map generation) × IsSwept generation store.map first (h store.disk))

@@ -4,7 +4,7 @@ use Rattle.std.specs.List.{AllZip}
 use Rattle.std.proofs.lemmas.List.{length-map}
 use Rattle.std.proofs.lemmas.List.Elements.{All-nil, All-cons}
 use Rattle.box_snapshot.specs.Due.{NoLogDue, is_box_due, is_log_due, needs_of_box, needs_of_map}
-use Rattle.box_snapshot.specs.Rewrites.{SyncsMail}
+use Rattle.box_snapshot.specs.Rewrites.{SyncsMailNames}
 use Rattle.disk_model.specs.Disk.{DiskState, History, Between, IfTold}
 use Rattle.mdbox_base.specs.declared.entries.BoxEntry.{BoxEntry}
 use Rattle.mdbox_base.specs.declared.entries.Highest.{Highest}
@@ -105,7 +105,7 @@ shows_same m n before now lists same are h = subst (λ (ms : List BoxMeaning). S
 -- ---- what the store carries
 
 carried_as : {D : Type 0} → (a b : History) (old new : StoreValue D) → (s : IsStore (Some a) old) → (t : IsStore (Some b) new) → (r : IsRunning (Some a) s.generation old s.entries s.logs) → IsRunning (Some b) t.generation new t.entries t.logs
-    → MeansSame old.map new.map → indexes_of new.boxes ≡ indexes_of old.boxes → SyncsMail a.now b.now → CarriesStore old.map.store s.entries s.logs (files_of a.now) (files_of b.now)
+    → MeansSame old.map new.map → indexes_of new.boxes ≡ indexes_of old.boxes → SyncsMailNames a.now b.now → CarriesStore old.map.store s.entries s.logs (files_of a.now) (files_of b.now)
 carried_as a b old new s t r q same are mail =
     let id : List ℕ = old.map.store in
     let before : MapMeaning = map_meaning id s.entries in
@@ -124,7 +124,7 @@ abbrev pub CarriesStores : DiskState → DiskState → Type 0
 CarriesStores a b = (store : List ℕ) (entries : List MapEntry) (logs : List (List BoxEntry)) → Opens (files_of a) store entries logs → CarriesStore store entries logs (files_of a) (files_of b)
 
 pub carries_written : {D : Type 0} → (a b : Option History) (old new : StoreValue D) → IsStore a old → IsStore b new → old.stopped ≡ false → new.stopped ≡ false → MeansSame old.map new.map → indexes_of new.boxes ≡ indexes_of old.boxes
-    → Between SyncsMail a b → Between CarriesStores a b
+    → Between SyncsMailNames a b → Between CarriesStores a b
 carries_written None b old new s t runs goes same are mail = mail
 carries_written (Some a) None old new s t runs goes same are mail = mail
 carries_written (Some a) (Some b) old new s t runs goes same are mail = λ store entries logs o.

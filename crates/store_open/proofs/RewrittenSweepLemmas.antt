@@ -3,7 +3,7 @@ use Rattle.std.proofs.Common.{◌≡◌, ◌≢◌, ◌⊎◌, ◌==◌, ◌&&�
 use Rattle.std.proofs.lemmas.Bool.{cases_Bool, eqb-true, eq-eqb, and_from, and_parts, true≢false, false≢true}
 use Rattle.std.proofs.lemmas.List.Elements.{All-nil, All-cons, All-contains}
 use Rattle.std.proofs.lemmas.List.Folds.{Any-from_list_any, list_any_at}
-use Rattle.box_snapshot.specs.Rewrites.{AreNamesSynced, SyncsMail}
+use Rattle.box_snapshot.specs.Rewrites.{AreNamesSynced, SyncsMailNames}
 use Rattle.disk_model.proofs.BetweenLemmas.{between-both, between-map, between-on, between-since, between-then}
 use Rattle.disk_model.proofs.FirmLemmas.{reads_there}
 use Rattle.disk_model.specs.Disk.{Files, FileState, DiskState, History, Between, IfTold, IsThere}
@@ -111,7 +111,7 @@ unneeded_gone g m disk all (file.Box number i) u there =
 unneeded_gone g m disk all (file.Mail number) u there = false≢true u.is
 unneeded_gone g m disk all (file.Inst hash id) u there = false≢true u.is
 
-all_wanted : (g k : ℕ) (m n : MapMeaning) (a b : DiskState) → MeansSame m n → SyncsMail a b → NoOthers g n b → AllWanted k m a → AllWanted g n b
+all_wanted : (g k : ℕ) (m n : MapMeaning) (a b : DiskState) → MeansSame m n → SyncsMailNames a b → NoOthers g n b → AllWanted k m a → AllWanted g n b
 all_wanted g k m n a b same mail none all file.Root there = refl
 all_wanted g k m n a b same mail none all (file.Map i) there = elim (cases_Bool (i == g)) [
   | inl hit ↦ hit
@@ -158,7 +158,7 @@ log_there g n store entries logs disk is o (file.Inst hash id) log wanted = absu
 abbrev Kept : ℕ → MapMeaning → DiskState → DiskState → Type 0
 Kept g m a b = (name : FileName) → is_wanted g m name ≡ true → IsThere (a name) → IsThere (b name)
 
-kept_on : (g k : ℕ) (m n : MapMeaning) (store : List ℕ) (entries : List MapEntry) (logs : List (List BoxEntry)) (a b c : DiskState) → MeansSame m n → n ≡ map_meaning store entries → OpensAt store g entries logs c → SyncsMail b c → Kept k m a b → Kept g n a c
+kept_on : (g k : ℕ) (m n : MapMeaning) (store : List ℕ) (entries : List MapEntry) (logs : List (List BoxEntry)) (a b c : DiskState) → MeansSame m n → n ≡ map_meaning store entries → OpensAt store g entries logs c → SyncsMailNames b c → Kept k m a b → Kept g n a c
 kept_on g k m n store entries logs a b c same is o mail kept = λ name wanted there. elim (cases_Bool (is_log name)) [
   | inl log ↦ log_there g n store entries logs c is o name log wanted
   | inr other ↦
@@ -175,15 +175,15 @@ pub record IsWrittenDisk (g : ℕ) (m n : MapMeaning) (mid new : Option History)
   pub logs : List (List BoxEntry)
   pub map_is : n ≡ map_meaning n.store entries
   pub opens : IfTold new (OpensAt n.store g entries logs)
-  pub mail : Between SyncsMail mid new
+  pub mail : Between SyncsMailNames mid new
 
 pub swept_written : (g k : ℕ) (m n : MapMeaning) (old mid new : Option History) → IsWrittenDisk g m n mid new → Between (λ a b. AllWanted k m a → NoOthers g n b) mid new → NamesSynced g n old new → IsSwept k m old mid → IsSwept g n old new
 swept_written g k m n old mid new w none names swept = record {
-  reads = between-then _ SyncsMail _ old mid new (λ a b c carried mail. mail_as m n (files_of a) (files_of c) w.same (mail_on m (files_of a) b c mail carried)) swept.reads w.mail;
-  only = between-on _ (AllWanted k m) (AllWanted g n) mid new (λ a b both all. all_wanted g k m n a b w.same both.0 (both.1 all) all) (between-both _ _ (λ a b. SyncsMail a b × (AllWanted k m a → NoOthers g n b)) mid new (λ a b mail gone. (mail, gone)) w.mail none) swept.only;
-  kept = between-then (Kept k m) (λ b c. SyncsMail b c × OpensAt n.store g w.entries w.logs c) (Kept g n) old mid new
+  reads = between-then _ SyncsMailNames _ old mid new (λ a b c carried mail. mail_as m n (files_of a) (files_of c) w.same (mail_on m (files_of a) b c mail carried)) swept.reads w.mail;
+  only = between-on _ (AllWanted k m) (AllWanted g n) mid new (λ a b both all. all_wanted g k m n a b w.same both.0 (both.1 all) all) (between-both _ _ (λ a b. SyncsMailNames a b × (AllWanted k m a → NoOthers g n b)) mid new (λ a b mail gone. (mail, gone)) w.mail none) swept.only;
+  kept = between-then (Kept k m) (λ b c. SyncsMailNames b c × OpensAt n.store g w.entries w.logs c) (Kept g n) old mid new
       (λ a b c kept both. kept_on g k m n n.store w.entries w.logs a b c w.same w.map_is both.1 both.0 kept) swept.kept
-      (between-since SyncsMail _ (OpensAt n.store g w.entries w.logs) mid new (λ a b mail o. (mail, o)) w.mail w.opens);
+      (between-since SyncsMailNames _ (OpensAt n.store g w.entries w.logs) mid new (λ a b mail o. (mail, o)) w.mail w.opens);
   mail = fitted-then n old mid new (fitted_as m n old mid w.same swept.mail) (fitted_on n mid new w.mail);
   ends = ends_as m n new w.same (ends_on m mid new w.mail swept.ends);
   names = names;

@@ -2,7 +2,7 @@
 use Rattle.std.proofs.Common.{◌≡◌, ◌⊎◌, inl, inr, ℕ, true, false, length, List, Option, Some, None, All, refl, sym, ◌∙◌, ap, subst}
 use Rattle.std.proofs.lemmas.Bool.{cases_Bool, cond-true, cond-false, false≢true}
 use Rattle.std.proofs.lemmas.List.Elements.{All-weaker}
-use Rattle.box_snapshot.specs.Rewrites.{SyncsMail}
+use Rattle.box_snapshot.specs.Rewrites.{SyncsMailNames}
 use Rattle.disk_model.proofs.BetweenLemmas.{between-map, between-on}
 use Rattle.disk_model.specs.Disk.{Files, FileState, DiskState, History, Between, IfTold, IsThere, named, no_file, reading}
 use Rattle.disk_model.specs.Name.{IsLogName}
@@ -66,7 +66,7 @@ fitted_synced m number f g s there = record {
 
 -- ---- all of them
 
-pub mail_there : (a b : DiskState) → SyncsMail a b → (name : FileName) → (IsLogName name → ⊥) → IsThere (b name) → IsThere (a name)
+pub mail_there : (a b : DiskState) → SyncsMailNames a b → (name : FileName) → (IsLogName name → ⊥) → IsThere (b name) → IsThere (a name)
 mail_there a b mail name no_log there = synced_there (a name) (b name) (mail name no_log) there
 
 no_log_mail : (number : ℕ) → IsLogName (file.Mail number) → ⊥
@@ -75,12 +75,12 @@ no_log_mail number is = false≢true is
 no_log_instance : (hash id : List ℕ) → IsLogName (file.Inst hash id) → ⊥
 no_log_instance hash id is = false≢true is
 
-mail_reads : (a b : DiskState) → SyncsMail a b → (name : FileName) → (IsLogName name → ⊥) → files_of b name ≡ files_of a name
+mail_reads : (a b : DiskState) → SyncsMailNames a b → (name : FileName) → (IsLogName name → ⊥) → files_of b name ≡ files_of a name
 mail_reads a b mail name no_log = synced_reads (a name) (b name) (mail name no_log)
 
 -- the mail that was carried on to the first disk was carried on to the second
 
-region_on : (was : Files) (a b : DiskState) (row : MapRecord) → SyncsMail a b → HasSameRegion was (files_of a) row → HasSameRegion was (files_of b) row
+region_on : (was : Files) (a b : DiskState) (row : MapRecord) → SyncsMailNames a b → HasSameRegion was (files_of a) row → HasSameRegion was (files_of b) row
 region_on was a b row mail r = record {
   first = r.first;
   second = r.second;
@@ -91,22 +91,22 @@ region_on was a b row mail r = record {
   same = r.same;
 }
 
-instance_on : (was : Files) (a b : DiskState) (inst : InstRow) → SyncsMail a b → HasSameInstance was (files_of a) inst → HasSameInstance was (files_of b) inst
+instance_on : (was : Files) (a b : DiskState) (inst : InstRow) → SyncsMailNames a b → HasSameInstance was (files_of a) inst → HasSameInstance was (files_of b) inst
 instance_on was a b inst mail same = mail_reads a b mail (file.Inst inst.hash.0 inst.id.0) (no_log_instance inst.hash.0 inst.id.0) ∙ same
 
-pub mail_on : (m : MapMeaning) (was : Files) (a b : DiskState) → SyncsMail a b → CarriesMail m was (files_of a) → CarriesMail m was (files_of b)
+pub mail_on : (m : MapMeaning) (was : Files) (a b : DiskState) → SyncsMailNames a b → CarriesMail m was (files_of a) → CarriesMail m was (files_of b)
 mail_on m was a b mail carried = record {
   regions = All-weaker (HasSameRegion was (files_of a)) (HasSameRegion was (files_of b)) (λ row r. region_on was a b row mail r) m.records carried.regions;
   instances = All-weaker (λ (row : MapRecord). All (HasSameInstance was (files_of a)) row.instances) (λ (row : MapRecord). All (HasSameInstance was (files_of b)) row.instances)
       (λ row all. All-weaker (HasSameInstance was (files_of a)) (HasSameInstance was (files_of b)) (λ inst same. instance_on was a b inst mail same) row.instances all) m.records carried.instances;
 }
 
-pub fitted_on : (m : MapMeaning) (old new : Option History) → Between SyncsMail old new → AreFitted m old new
-fitted_on m old new mail = between-map SyncsMail _ old new (λ a b s number there. fitted_synced m number (a (file.Mail number)) (b (file.Mail number)) (s (file.Mail number) (no_log_mail number)) there) mail
+pub fitted_on : (m : MapMeaning) (old new : Option History) → Between SyncsMailNames old new → AreFitted m old new
+fitted_on m old new mail = between-map SyncsMailNames _ old new (λ a b s number there. fitted_synced m number (a (file.Mail number)) (b (file.Mail number)) (s (file.Mail number) (no_log_mail number)) there) mail
 
-pub ends_on : (m : MapMeaning) (old new : Option History) → Between SyncsMail old new → IfTold old (EndWithRegions m) → IfTold new (EndWithRegions m)
+pub ends_on : (m : MapMeaning) (old new : Option History) → Between SyncsMailNames old new → IfTold old (EndWithRegions m) → IfTold new (EndWithRegions m)
 ends_on m old new mail ends =
-    between-on SyncsMail (EndWithRegions m) (EndWithRegions m) old new (λ a b s ends number there unsealed.
+    between-on SyncsMailNames (EndWithRegions m) (EndWithRegions m) old new (λ a b s ends number there unsealed.
     let f : FileState = a (file.Mail number) in
     let g : FileState = b (file.Mail number) in
     let one = s (file.Mail number) (no_log_mail number) in
