@@ -15,7 +15,6 @@ use Rattle.model_kept.proofs.KeptLemmas.{ReadsImage, kept_then}
 use Rattle.model_kept.specs.Kept.{MailIsKept}
 use Rattle.model_lists.specs.Lists.{Lists}
 use Rattle.model_logs.specs.declared.log_head.LogHead.{LogHead}
-use Rattle.model_meaning.specs.BoxMeaning.{BoxMeaning}
 use Rattle.model_meaning.specs.MapMeaning.{MapMeaning, map_meaning}
 use Rattle.model_rewritten.specs.CarriedStore.{CarriesStore}
 use Rattle.model_store.proofs.StandsLemmas.{root_same}
