@@ -56,6 +56,7 @@ bench: all
 	cd crates/parts_bench && rt run -- read <stdin
 	bench/parts
 	bench/open
+	bench/open mdbox 7 1000 flags
 	bench/fetch
 	bench/deliver
 	bench/serve

@@ -51,6 +51,10 @@ class Message:
         """The entry of the map log that lowers its count."""
         return b"D" + four(1) + four(self.number)
 
+    def flagged_entry(self, flags):
+        """The entry of the mailbox log that sets its flags."""
+        return b"F" + four(self.number) + bytes([flags])
+
     def row(self):
         """The line that lists it."""
         return f"{self.number} {self.flags} {len(self.octets)} {self.time} {self.guid.hex()}\n"
@@ -84,29 +88,45 @@ def write_mail_files(folder, messages):
     out.close()
 
 
-def write_store(folder, count, half=False, last=None, second=False, least=LEAST_SIZE, largest=LARGEST_SIZE, beside=False):
-    """Writes a store of so many messages in INBOX, beside which there is an empty mailbox, EMPTY, into a folder. If only half
-    of them are to stay, the others are expunged in any order; or every second one is; if the last one's octets are given, it has
-    these. They may be in the mailbox beside INBOX, which is BIG then, and INBOX empty. Answers all messages, and those that stay."""
-    sizes = random.Random(count)
-    messages = [Message(number, sizes, least, largest) for number in range(1, count + 1)]
-    if last is not None:
-        messages[-1].octets = last
-    expunged = sizes.sample(messages, count // 2) if half else messages[1::2] if second else []
+def flag_entries(messages, times):
+    """Entries of the mailbox log that set flags so many times, of one message after another; the last ones are the messages' own."""
+    count = len(messages)
+    for time in range(times):
+        one = messages[time % count]
+        yield one.flagged_entry(one.flags if time >= times - count else (one.number + time // count) % 32)
+
+
+def write_logs(folder, messages, expunged=(), flags=0, generation=1, beside=False):
+    """Writes the logs of a store of these messages, of which some were expunged, and whose flags were set so many times; INBOX's log
+    has this generation."""
     storage, mailboxes = (os.path.join(folder, name) for name in ("storage", "mailboxes"))
-    os.mkdir(storage)
-    os.mkdir(mailboxes)
-    write_mail_files(storage, messages)
-    boxes = [b"B" + four(1) + four(1) + b"\x05INBOX", b"B" + four(2) + four(1) + (b"\x03BIG" if beside else b"\x05EMPTY")]
+    boxes = [b"B" + four(1) + four(generation) + b"\x05INBOX", b"B" + four(2) + four(1) + (b"\x03BIG" if beside else b"\x05EMPTY")]
     stored = [one.stored_entry() for one in messages]
     lowered = [one.lowered_entry() for one in expunged]
     added = [one.added_entry() for one in messages]
     removed = [one.removed_entry() for one in expunged]
     write_log(os.path.join(storage, "root.log"), b"R", 0, 0, [b"M" + four(1)])
     write_log(os.path.join(storage, "map.1.log"), b"M", 0, 1, boxes + stored + lowered)
-    logs = [[], added + removed] if beside else [added + removed, []]
+    logs = [[], added + removed] if beside else [added + [*flag_entries(messages, flags)] + removed, []]
     for number, log in enumerate(logs, 1):
-        write_log(os.path.join(mailboxes, f"b.{number}.1.log"), b"B", number, 1, log)
+        own = generation if number == 1 else 1
+        write_log(os.path.join(mailboxes, f"b.{number}.{own}.log"), b"B", number, own, log)
+
+
+def write_store(folder, count, half=False, last=None, second=False, least=LEAST_SIZE, largest=LARGEST_SIZE, beside=False, flags=0):
+    """Writes a store of so many messages in INBOX, beside which there is an empty mailbox, EMPTY, into a folder. If only half
+    of them are to stay, the others are expunged in any order; or every second one is; if the last one's octets are given, it has
+    these; flags were set so many times. They may be in the mailbox beside INBOX, which is BIG then, and INBOX empty. Answers all
+    messages, and those that stay."""
+    sizes = random.Random(count)
+    messages = [Message(number, sizes, least, largest) for number in range(1, count + 1)]
+    if last is not None:
+        messages[-1].octets = last
+    expunged = sizes.sample(messages, count // 2) if half else messages[1::2] if second else []
+    for name in ("storage", "mailboxes"):
+        os.mkdir(os.path.join(folder, name))
+    write_mail_files(os.path.join(folder, "storage"), messages)
+    write_logs(folder, messages, expunged, flags, beside=beside)
     gone = {one.number for one in expunged}
     return messages, [one for one in messages if one.number not in gone]
 

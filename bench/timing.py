@@ -75,7 +75,7 @@ def compare(program, others, path, runs):
     commands = {name: (command, path) for name, command in {**others, "mdbox": program}.items()}
     elapsed, processor, memory = least(commands, runs)
     for name in commands:
-        print(f"{name:15} {elapsed[name] * 1000:.0f} ms, processor {processor[name] * 1000:.0f} ms")
+        print(f"{name:15} {elapsed[name] * 1000:.1f} ms, processor {processor[name] * 1000:.1f} ms")
     for name in others:
         ratios = elapsed["mdbox"] / elapsed[name], processor["mdbox"] / processor[name]
         print(f"{'mdbox / ' + name:15} {ratios[0]:.2f}, processor {ratios[1]:.2f}")

@@ -1,3 +1,6 @@
 mod DueLemmas
+mod DueLogsLemmas
 mod MapEntryLemmas
 mod MapGroupLemmas
+mod OpenAgainLemmas
+pub mod RewritesLemmas

@@ -1,5 +1,5 @@
 -- Which logs of a store are due to be written anew: those that have many more entries than they need.
-use Rattle.std.specs.Prelude.{◌≡◌, ◌+◌, ◌*◌, ◌==◌, ◌&&◌, ℕ, Bool, false, nat_le, nat_lt, length, find, All}
+use Rattle.std.specs.Prelude.{◌≡◌, ◌<◌, ◌+◌, ◌*◌, ◌==◌, ◌&&◌, ℕ, Bool, false, nat_le, nat_lt, List, length, find, slice_get, All}
 use Rattle.std.specs.Option.{option_map_or}
 use Rattle.model_meaning.specs.BoxMeaning.{BoxMeaning}
 use Rattle.model_meaning.specs.MapMeaning.{MapMeaning}
@@ -35,3 +35,13 @@ is_map_due store = is_log_due store.map_log.count (needs_of_map store.map) store
 pub record NoLogDue {D : Type 0} (store : StoreValue D) : Type 0 where
   pub boxes : All (λ b. is_box_due b ≡ false) store.boxes
   pub map_log : is_map_due store ≡ false
+
+-- Each mailbox whose log isn't due is as it was.
+abbrev pub KeepsUndue : {D : Type 0} → StoreValue D → StoreValue D → Type 0
+KeepsUndue old new = (number : ℕ) → is_due_at number old ≡ false → find (λ b. b.number.0 == number) new.boxes ≡ find (λ b. b.number.0 == number) old.boxes
+
+-- ---- within the crate
+
+-- the logs of the first so many mailboxes aren't due
+abbrev pub AreUndueTo : ℕ → List OpenBox → Type 0
+AreUndueTo place boxes = (i : ℕ) → i < place → option_map_or is_box_due (slice_get boxes i) false ≡ false

@@ -1,2 +1,3 @@
 pub mod Due
+pub mod Filled
 pub mod Rewrites

@@ -4,10 +4,12 @@
 pub use box_log::snapshot_box;
 pub use due::{box_due, map_due};
 pub use due_logs::snapshot_due;
+pub use laws::rewritten_stores_open_again;
 pub use map_log::snapshot_map;
 
 mod box_log;
 mod due;
 mod due_logs;
+mod laws;
 mod map_entries;
 mod map_log;

@@ -1,5 +1,5 @@
 // The entries of a map log that is written anew, by their places.
-ghost use Rattle.std.specs.Prelude.{◌≡◌, ◌<◌, ◌≤◌, Some, IfOk, drop, length, map, slice_get, take};
+ghost use Rattle.std.specs.Prelude.{◌≡◌, ◌<◌, ◌≤◌, ◌+◌, ◌^◌, Some, IfOk, drop, length, map, slice_get, take};
 ghost use Rattle.model_rewritten.specs.Rewriting.{made_entry, map_snapshot, seal_entry, stored_again};
 
 use map_index::MapIndex;
@@ -23,7 +23,8 @@ pub(crate) fn group_of(
     from: u64,
 ) -> Result<Seq<MapEntry>, NoMemory>
     requires { from ≤ length (map_snapshot index.now.meaning) }
-    ensures { IfOk result (λ group. group ≡ take 16 (drop from (map_snapshot index.now.meaning))) }
+    ensures group { IfOk result (λ group. group ≡ take 16 (drop from (map_snapshot index.now.meaning))) }
+    ensures end { IfOk result (λ group. from + length group < 2 ^ 64) }
 {
     let size = (entries_in(index) - from).min(GROUP);
     let mut group = Vec::with_capacity(alloc, size as usize)?;

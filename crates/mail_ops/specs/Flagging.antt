@@ -4,7 +4,7 @@ use Rattle.std.specs.Option.{option_map_or}
 use Rattle.mdbox_base.specs.declared.replies.Refusal.{Refusal}
 use Rattle.mdbox_base.specs.declared.replies.Refusal.TheVariants as refusal
 use Rattle.model_meaning.specs.BoxMeaning.{row_at}
-use Rattle.store_core.specs.Value.{StoreValue, entries_of, list_named}
+use Rattle.store_core.specs.Value.{StoreValue, log_count_of, list_named}
 use Rattle.task_claims.specs.Leaving.{number_named}
 
 -- why flags aren't set, and keywords: the store is stopped, no mailbox has the name, or no message of it has the UID
@@ -14,4 +14,4 @@ flag_refusal name uid store =
 
 -- the mailbox with this name is there, and its log has one entry more, also where the message had the same flags or keywords
 abbrev pub HasEntryMore : {D : Type 0} → List ℕ → StoreValue D → StoreValue D → Type 0
-HasEntryMore name old new = (number : ℕ) × (number_named old.map name ≡ Some number) × (entries_of number new.boxes ≡ entries_of number old.boxes + 1)
+HasEntryMore name old new = (number : ℕ) × (number_named old.map name ≡ Some number) × (log_count_of number new.boxes ≡ log_count_of number old.boxes + 1)

@@ -143,7 +143,7 @@ request_ended {D} Tells request h k old new f g o e (inr w) = request_input Tell
 lacking : (why : OpenError) (old new : Option History) (f g : Faults) → (why ≡ error.DiskFault → ⊥) → IsUnopened why old new f g → IsUnopened error.NoMemory old new f g
 lacking why old new f g other u = record {
   cause = tt;
-  idle = λ memory. u.idle other;
+  idle = λ fault memory. absurd (memory refl);
   untouched = u.untouched;
   stays = u.stays;
   closed_well = u.closed_well;
@@ -195,7 +195,7 @@ unchanged (Some now) = λ lacks. idle-begins (Some now)
 still_unopened : (old : Option History) (f : Faults) → IsUnopened error.NoMemory old old f f
 still_unopened old f = record {
   cause = tt;
-  idle = λ other. idle-begins old;
+  idle = λ fault memory. idle-begins old;
   untouched = unchanged old;
   stays = λ store entries logs opens. kept_begins (map_meaning store entries) old;
   closed_well = if_told-all (λ disk. IsClosedWell disk → IsIdle old old) old (λ disk well. idle-begins old);

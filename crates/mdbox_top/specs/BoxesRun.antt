@@ -37,7 +37,8 @@ box_rows (box ∷ boxes) (m ∷ meanings) = row_of_box box m ∷ box_rows boxes 
 box_rows boxes meanings = []
 
 -- The rows are what the logs mean from which the store opened, and opens again; if the files were safe for lists, they are those of these
--- lists. All that the store reads is carried over, and the disk was swept; if it was settled for lists, it is settled for them again.
+-- lists. The store opens again, with logs that mean the same and the same mail, and the disk was swept; if it was settled for lists, it
+-- is settled for them again.
 pub record AreBoxes (old new : Option History) (rows : List BoxRow) : Type 0 where
   pub m : MapMeaning
   pub meanings : List BoxMeaning

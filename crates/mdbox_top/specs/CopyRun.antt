@@ -19,9 +19,9 @@ use Rattle.script_run.specs.One.{IsCopyAnswer, OpensUnchanged, lists_told, uncop
 use Rattle.mdbox_top.specs.Changed.{OpensChanged, OpensAsBefore, ChangeMoments, ChangeRests, LeavesMail}
 use Rattle.mdbox_top.specs.Served.{RequestOutcome}
 
--- The reply to the copy of this message, by what the logs mean from which the store opened. Where it is refused, the files open
--- with the same logs, all that the store reads is carried over, and the disk was swept. Out of memory, they open with the same
--- listings and counts, the count of the message's record maybe raised and given back. Where it is done, their logs show the
+-- The reply to the copy of this message, by what the logs mean from which the store opened. Where it is refused, the store opens
+-- again, with logs that mean the same and the same mail, and the disk was swept. Out of memory, it opens with the same
+-- listings and counts, the count of the message's record maybe raised and given back. Where it is done, its logs show the
 -- lists with the copy. Unless the store is stopped, a disk that was settled for lists is settled for those that the reply tells,
 -- and storage files and instances are left as the opening left them.
 pub record IsCopyReply (name : List ℕ) (uid : Uid) (target : List ℕ) (old new : Option History) (given : Reply) : Type 0 where

@@ -25,8 +25,8 @@ abbrev pub counts_of : MapMeaning → List BoxMeaning → Reply
 counts_of m meanings = reply.Counted (length m.records) (sum_by (λ box. length box.rows) meanings) (sum_by (λ row. row.count) m.records) (count_different (named_ids m))
 
 -- The reply to a count: what the logs mean from which the store opened, and opens again, or out of memory. If the files were
--- safe for lists, the first is the list machine's reply for these, in every run whose map is this one. All that the store reads
--- is carried over, and the disk was swept; if it was settled for lists, it is settled for them again.
+-- safe for lists, the first is the list machine's reply for these, in every run whose map is this one. The store opens again, with
+-- logs that mean the same and the same mail, and the disk was swept; if it was settled for lists, it is settled for them again.
 pub record IsCountsReply (old new : Option History) (given : Reply) : Type 0 where
   pub m : MapMeaning
   pub meanings : List BoxMeaning
@@ -49,6 +49,7 @@ CountsOutcome D = RequestOutcome D IsCountsReply request.Counts
 abbrev pub CountsMoments : Option History → Option History → Type 0
 CountsMoments old new = ListMoments old new
 
--- If no change of the disk failed, a disk that was settled is settled again, and all that the store reads is carried over.
+-- If no change of the disk failed, a disk that was settled is settled again, and the store opens again, with logs that mean
+-- the same and the same mail.
 abbrev pub CountsRests : Type 0 → Faults → Faults → Option History → Option History → Type 0
 CountsRests failed began now old new = ListRests failed began now old new

@@ -66,12 +66,12 @@ pub record OpensSaved (name : List ℕ) (time : ℕ) (octets : List ℕ) (prepar
   pub once : IfTold new (AreFirstNamed rows map)
 
 -- The reply to the delivery of these octets, whose detached form this is, at this time, by what the logs mean from which the store
--- opened, and by the storage files that it found. Where the logs say why the message isn't saved, the files open with the same
--- logs, all that the store reads is carried over, and the disk was swept. With any other refusal they open with the same listings,
--- unless the store is stopped. Where it is saved, their logs show the lists with the message: last in its mailbox, with its next
+-- opened, and by the storage files that it found. Where the logs say why the message isn't saved, the store opens again, with
+-- logs that mean the same and the same mail, and the disk was swept. With any other refusal it opens with the same listings,
+-- unless the store is stopped. Where it is saved, its logs show the lists with the message: last in its mailbox, with its next
 -- UID, without flags or keywords, with this time and these octets, and with the GUID that is replied; its octets were added to
--- its storage file, and what else the store reads of storage files and instances is carried over. The opening swept the disk; at each moment of it and
--- afterwards, whatever failed, storage files stayed as far as their regions, sealed ones whole, and so did instances; and after it,
+-- its storage file, and what else the store reads of storage files and instances is the same. The opening swept the disk; at each
+-- moment of it and afterwards, whatever failed, storage files stayed as far as their regions, sealed ones whole, and so did instances; and after it,
 -- unless the store is stopped, no storage file has changed but the one that was taken for the message, and no instance, but that
 -- new ones have the octets of its attachments. Unless the store is stopped, a disk that was settled for lists is settled for those
 -- that the reply tells.

@@ -24,9 +24,9 @@ abbrev pub lists_without_message : List ℕ → Uid → Lists → Lists
 lists_without_message name uid lists = expunge name uid.0 lists
 
 -- The reply to the expunge of this message, by what the logs mean from which the store opened. Where it is refused, or out of
--- memory, the files open with the same logs, all that the store reads is carried over, and the disk was swept. Where it is
--- done, their logs show the lists without the message. Unless the store is stopped, a disk that was settled for lists is settled
--- for those that the reply tells, and storage files and instances are left as the opening left them.
+-- memory, the store opens again, with logs that mean the same and the same mail, and the disk was swept. Where it is done, its
+-- logs show the lists without the message. Unless the store is stopped, a disk that was settled for lists is settled for those
+-- that the reply tells, and storage files and instances are left as the opening left them.
 pub record IsExpungeReply (name : List ℕ) (uid : Uid) (old new : Option History) (given : Reply) : Type 0 where
   pub m : MapMeaning
   pub meanings : List BoxMeaning

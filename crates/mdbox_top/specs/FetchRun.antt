@@ -44,8 +44,9 @@ pub record IsFetched (name : List ℕ) (uid : ℕ) (m : MapMeaning) (meanings : 
 
 -- The reply to the fetch of this message, by what the logs mean from which the store opened, and opens again. It is refused if and
 -- only if they have no such mailbox or message. Else it is by what the disk reads, or there was no memory; and where the files were
--- safe for lists, the octets are those of the message that they list. Behind the opening, which swept the disk, nothing has
--- changed: all that the store reads is carried over, and if the disk was settled for lists, it is settled for them again.
+-- safe for lists, the octets are those of the message that they list. After the opening, which swept the disk, nothing has
+-- changed: the store opens again, with logs that mean the same and the same mail, and if the disk was settled for lists, it is settled
+-- for them again.
 pub record IsFetchReply (name : List ℕ) (uid : Uid) (old new : Option History) (given : Reply) : Type 0 where
   pub m : MapMeaning
   pub meanings : List BoxMeaning
@@ -69,6 +70,7 @@ FetchOutcome D name uid = RequestOutcome D (IsFetchReply name uid) (request.Fetc
 abbrev pub FetchMoments : Option History → Option History → Type 0
 FetchMoments old new = ListMoments old new
 
--- If no change of the disk failed, a disk that was settled is settled again, and all that the store reads is carried over.
+-- If no change of the disk failed, a disk that was settled is settled again, and the store opens again, with logs that mean
+-- the same and the same mail.
 abbrev pub FetchRests : Type 0 → Faults → Faults → Option History → Option History → Type 0
 FetchRests failed began now old new = ListRests failed began now old new

@@ -29,8 +29,8 @@ pub record HasFlagged (name : List ℕ) (uid flags : ℕ) (m : MapMeaning) (mean
   pub opened : IsOpenedAs new map flagged
   pub shows : (lists : Lists) → AreWellFormed lists → ShowLists m.boxes meanings lists → ShowLists map.boxes flagged (set_flags name uid flags lists)
 
--- The reply to the setting of these flags, by what the logs mean from which the store opened. Where it is refused, the files
--- open with the same logs, all that the store reads is carried over, and the disk was swept. Where it is done, they have the
+-- The reply to the setting of these flags, by what the logs mean from which the store opened. Where it is refused, the store
+-- opens again, with logs that mean the same and the same mail, and the disk was swept. Where it is done, they have the
 -- flags. Unless the store is stopped, a disk that was settled for lists is settled for those that the reply tells, and storage
 -- files and instances are left as the opening left them.
 pub record IsFlagReply (name : List ℕ) (uid : Uid) (flags : ℕ) (old new : Option History) (given : Reply) : Type 0 where

@@ -24,8 +24,8 @@ abbrev pub lists_with_words : List ℕ → Uid → List (List ℕ) → Lists →
 lists_with_words name uid words lists = set_words name uid.0 words lists
 
 -- The reply to the setting of these keywords, by what the logs mean from which the store opened. Where it is refused, or out of
--- memory, the files open with the same logs, all that the store reads is carried over, and the disk was swept. Where it is
--- done, their logs show the lists with the keywords. Unless the store is stopped, a disk that was settled for lists is settled
+-- memory, the store opens again, with logs that mean the same and the same mail, and the disk was swept. Where it is
+-- done, its logs show the lists with the keywords. Unless the store is stopped, a disk that was settled for lists is settled
 -- for those that the reply tells, and storage files and instances are left as the opening left them.
 pub record IsKeywordsReply (name : List ℕ) (uid : Uid) (words : List (List ℕ)) (old new : Option History) (given : Reply) : Type 0 where
   pub m : MapMeaning

@@ -21,8 +21,8 @@ use Rattle.script_run.specs.Opening.{AreSafeFor, StaysSettled}
 use Rattle.mdbox_top.specs.Served.{RequestOutcome}
 
 -- The reply to a listing of this mailbox: what the logs mean from which the store opened, and opens again, or out of memory.
--- If the files were safe for lists, the first is the list machine's reply for these. All that the store reads is carried over,
--- and the disk was swept; if it was settled for lists, it is settled for them again.
+-- If the files were safe for lists, the first is the list machine's reply for these. The store opens again, with logs that mean
+-- the same and the same mail, and the disk was swept; if it was settled for lists, it is settled for them again.
 pub record IsListReply (name : List ℕ) (old new : Option History) (given : Reply) : Type 0 where
   pub m : MapMeaning
   pub meanings : List BoxMeaning
@@ -47,6 +47,7 @@ pub record ListMoments (old new : Option History) : Type 0 where
   pub stays : KeepsOpenedMail old new
   pub closed_well : IdleIf IsClosedWell old new
 
--- If no change of the disk failed, a disk that was settled is settled again, and all that the store reads is carried over.
+-- If no change of the disk failed, a disk that was settled is settled again, and the store opens again, with logs that mean
+-- the same and the same mail.
 abbrev pub ListRests : Type 0 → Faults → Faults → Option History → Option History → Type 0
 ListRests failed began now old new = NoFailedChange failed began now → StaysSettled old new × StoreCarries old new

@@ -39,8 +39,8 @@ pub record LeavesOpened (m : MapMeaning) (given : Reply) (old new : Option Histo
   pub undone : (given ≡ reply.Refused refusal.Stopped → ⊥) → (given ≡ reply.Done → ⊥) → ReadAlike opened new
 
 -- The reply to the making of a mailbox with this name, by what the logs mean from which the store opened. Where it is refused, the
--- files open with the same logs, all that the store reads is carried over, and the disk was swept. Out of memory, they open with
--- the same logs. Where it is done, they open with the same logs, with the entry that names the mailbox and with its log, and these
+-- store opens again, with logs that mean the same and the same mail, and the disk was swept. Out of memory, its logs mean the
+-- same. Where it is done, they mean the same with the entry that names the mailbox and with its log, and
 -- show the lists with the empty mailbox last. Unless the store is stopped, a disk that was settled for lists is settled for those
 -- that the reply tells, and storage files and instances, or all files, are left as the opening left them.
 pub record IsMakeReply (name : List ℕ) (old new : Option History) (given : Reply) : Type 0 where

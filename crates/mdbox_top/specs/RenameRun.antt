@@ -19,8 +19,8 @@ use Rattle.mdbox_top.specs.Changed.{OpensChanged, ChangeMoments, ChangeRests, Le
 use Rattle.mdbox_top.specs.Served.{RequestOutcome}
 
 -- The reply to the renaming of the mailbox with this name, by what the logs mean from which the store opened. Where it is refused, or
--- out of memory, the files open with the same logs, all that the store reads is carried over, and the disk was swept. Where it is done,
--- their logs show the lists in which the mailbox has the target as its name, and all else is the same. Unless the store is stopped, a
+-- out of memory, the store opens again, with logs that mean the same and the same mail, and the disk was swept. Where it is done,
+-- its logs show the lists in which the mailbox has the target as its name, and all else is the same. Unless the store is stopped, a
 -- disk that was settled for lists is settled for those that the reply tells, and storage files and instances are left as the opening
 -- left them.
 pub record IsRenameReply (name target : List ℕ) (old new : Option History) (given : Reply) : Type 0 where

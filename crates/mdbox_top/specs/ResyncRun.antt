@@ -37,7 +37,7 @@ MayReplyResync (reply.Refused refusal.Stopped) = Unit {0}
 MayReplyResync given = ⊥
 
 -- The reply to a resync, by what the logs mean from which the store opened, whether the files are safe for some lists or not. Where it
--- is refused, the files open with the same logs, all that the store reads is carried over, and the disk was swept. Unless the store is
+-- is refused, the store opens again, with logs that mean the same and the same mail, and the disk was swept. Unless the store is
 -- stopped, a disk that was settled for lists is settled for them again, and storage files and instances are left as the opening left them.
 pub record IsResyncReply (old new : Option History) (given : Reply) : Type 0 where
   pub m : MapMeaning

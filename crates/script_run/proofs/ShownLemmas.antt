@@ -14,14 +14,12 @@ use Rattle.model_meaning.specs.BoxMeaning.{BoxMeaning, box_meaning}
 use Rattle.model_meaning.specs.MapMeaning.{MapBox, MapMeaning, map_meaning}
 use Rattle.model_meaning.specs.SameMeaning.{MeansSame}
 use Rattle.model_meaning.proofs.SameMeaningLemmas.{means_itself}
-use Rattle.model_store.specs.Carrying.{CarryOver}
+use Rattle.model_rewritten.proofs.CarriedLemmas.{carried_safe as safe_again}
 use Rattle.model_store.specs.Listing.{HaveListings, ShowLists, meaning_named, listing_of}
 use Rattle.model_store.specs.Opening.{Opens}
 use Rattle.model_store.specs.Settled.{files_of}
 use Rattle.model_store.proofs.OpeningLemmas.{one_store}
 use Rattle.model_store.proofs.OpeningSafeLemmas.{safe_opens}
-use Rattle.model_store.proofs.SettledLemmas.{safe_carried}
-use Rattle.model_store.proofs.StandsLemmas.{root_same}
 use Rattle.model_store.proofs.WellFormedLemmas.{well_formed}
 use Rattle.mail_fetch.specs.Clause.{ReadsSafe}
 use Rattle.store_core.specs.Running.{IsStore}
@@ -101,19 +99,14 @@ answers_safe name old m meanings o show answer run event lists safe =
     ap listing_of (named ∙ ap (λ (ms : List BoxMeaning). meaning_named name m.boxes ms) (sym o.meanings_are)) in
     subst (λ (r : Reply). PartAnswers run event lists (request.List name) First r lists) given (answer run event (map_meaning m.store o.entries).boxes (map box_meaning o.logs) lists name shows)
 
--- files that carry over what the store reads are safe for the same lists
+-- files that open again, with logs that mean the same and the same mail, are safe for the same lists
 pub carried_safe : (lists : Lists) (old new : Option History) → StoreCarries old new → AreSafeFor lists old → ReadsSafe lists new
 carried_safe lists None new carry safe = absurd safe
 carried_safe lists (Some h) None carry safe = absurd carry
 carried_safe lists (Some h) (Some g) carry safe =
     let o = safe_opens (files_of h.now) safe.store safe.entries lists safe.by in
-    let over = carry safe.store safe.entries o.0 o.1 in
-    let same = root_same (files_of h.now) safe.store safe.store o.1.passed.map_log.generation safe.by.stands.map_log.generation o.1.passed.map_log.root safe.by.stands.map_log.root in
-    record {
-      store = safe.store;
-      entries = safe.entries;
-      by = safe_carried (files_of h.now) (files_of g.now) safe.store safe.entries lists safe.by (subst (λ (n : ℕ). CarryOver n (map_meaning safe.store safe.entries) (files_of h.now) (files_of g.now)) same.1 over);
-    }
+    let again = carry safe.store safe.entries o.0 o.1 in
+    record { store = safe.store; entries = again.later; by = safe_again (files_of h.now) (files_of g.now) safe.store safe.entries o.0 lists safe.by o.1 again }
 
 -- a store that isn't stopped opens again
 pub opens_again : {D : Type 0} → (new : Option History) (s : StoreValue D) → IsStore new s → s.stopped ≡ false → IsOpenedAs new s.map (indexes_of s.boxes)

@@ -19,9 +19,9 @@ use Rattle.lanes.specs.Worlds.{AreOfLanes, ArePartsOf, IsFreshWorld, PartsValue,
 use Rattle.script_run.specs.Opening.{StaysSettled}
 
 -- The store was opened, and isn't stopped: with logs, storage files and instances that the files have, and no number is drawn nor count due
--- that they don't have. The opening swept the disk, carried over all that the store reads, and left a store that was closed well as it was.
--- Of a disk that was settled for lists each crash image is safe for them, and it is settled for them again. At each moment storage files
--- and instances stayed.
+-- that they don't have. The opening swept the disk, and left a store that was closed well as it was; the store opens again with logs that
+-- mean the same and the same mail. Of a disk that was settled for lists each crash image is safe for them, and it is settled for them
+-- again. At each moment storage files and instances stayed.
 pub record IsStoreOpened {D : Type 0} (old mid : Option History) (s : StoreValue D) : Type 0 where
   pub opened : IsOpenedAs old s.map (indexes_of s.boxes)
   pub store : IsStore mid s

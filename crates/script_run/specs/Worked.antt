@@ -14,10 +14,10 @@ use Rattle.store_open.specs.Opened.{IsOpenedAs, StoreCarries}
 use Rattle.store_sweep.specs.Swept.{IsSwept}
 use Rattle.script_run.specs.Opening.{StaysSettled}
 
--- The store was opened, with logs, storage files and instances that the files have, and isn't stopped; the opening swept the disk,
--- carried over all that the store reads, and left a disk settled that was so. A world of the script's requests, of so many lanes, began
--- over it, and went on by events of its lanes, in whatever order: each is a step of its request's task, from the store as it was then. The
--- replies and the journal are those that the world had at its end, and its store is one of the disk.
+-- The store was opened, with logs, storage files and instances that the files have, and isn't stopped; the opening swept the disk and
+-- left a disk settled that was so, and the store opens again with logs that mean the same and the same mail. A world of the script's
+-- requests, of so many lanes, began over it, and went on by events of its lanes, in whatever order: each is a step of its request's task,
+-- from the store as it was then. The replies and the journal are those that the world had at its end, and its store is one of the disk.
 pub record IsWorkedOut (D : Type 0) (script : Requests) (lanes : ℕ) (replies : List (Option Reply)) (entries : List JournalEntry) (old new : Option History) (began now : Faults) : Type 0 where
   pub opened : Option History
   pub store : StoreValue D

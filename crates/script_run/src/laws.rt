@@ -86,8 +86,8 @@ pub fn moves_make_two_steps()
         → LogsShowLists first meanings start → IsServed start (alone (request.Move name uid target)) run journal broken (Some (reply.Moved moved true) ∷ []) old new first m drawn calls → ⊥ }
 {}
 
-/// Where nothing has changed since the opening, the files open with the same logs. A request that only reads leaves a disk that was
-/// settled for lists settled for them, and at each moment safe for them.
+/// Where nothing has changed since the opening, the files open again with logs that mean the same. A request that only reads leaves a
+/// disk that was settled for lists settled for them, and at each moment safe for them.
 pub fn requests_that_read()
     ensures unchanged { (asked : Request) (given : Reply) (entries : List JournalEntry) (old new : Option History) (began now : Faults) → (done : IsScriptDone (alone asked) (given ∷ []) entries old new began now) → IsIdle done.leaves.opened new → OpensUnchanged done.m done.meanings old new }
     ensures safe { (asked : Request) (given : Reply) (entries : List JournalEntry) (old new : Option History) (began now : Faults) → IsScriptDone (alone asked) (given ∷ []) entries old new began now → only_reads asked ≡ true → (lists : Lists) → IsSettledFor lists old → EachImage (λ _ image. Safe image lists) old new × IsSettledFor lists new }

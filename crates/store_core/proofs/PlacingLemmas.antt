@@ -19,7 +19,7 @@ use Rattle.store_core.proofs.DueChangeLemmas.{HasRemoved, due_is, as_many, numbe
 use Rattle.store_core.proofs.PickingLemmas.{Rising, Picked, above_first, indexes_set, room_at, rooms_set}
 use Rattle.store_core.proofs.BoxAppendLemmas.{Placed, covered, dues_of, store_sound, own_box}
 use Rattle.store_core.proofs.ReplacedLogLemmas.{found_set}
-use Rattle.store_core.specs.Value.{entries_of}
+use Rattle.store_core.specs.Value.{log_count_of}
 
 some_same : {X : Type 0} → (o : Option X) (a b : X) → o ≡ Some a → o ≡ Some b → a ≡ b
 some_same o a b p q = let h : Some a ≡ Some b = sym p ∙ q in cc h
@@ -107,14 +107,14 @@ taken_there h v k b x number e p index =
     ∙ ap (λ (n : ℕ). meanings_by n e v.map.boxes (indexes_of v.boxes)) (ap (λ (y : OpenBox). y.number.0) (sym p.here) ∙ p.number_is)
 
 -- how many entries its log has
-pub counted_there : {D : Type 0} → (h : Option History) (v : StoreValue D) (k : ℕ) (b x : OpenBox) (number : ℕ) (e : BoxEntry) → Placed h v k b number e → x.number ≡ b.number → x.log.count ≡ b.log.count + 1 → entries_of number (slice_set v.boxes k x) ≡ entries_of number v.boxes + 1
+pub counted_there : {D : Type 0} → (h : Option History) (v : StoreValue D) (k : ℕ) (b x : OpenBox) (number : ℕ) (e : BoxEntry) → Placed h v k b number e → x.number ≡ b.number → x.log.count ≡ b.log.count + 1 → log_count_of number (slice_set v.boxes k x) ≡ log_count_of number v.boxes + 1
 counted_there h v k b x number e p same counted =
     let count : OpenBox → ℕ = λ o. o.log.count in
-    let found : (y : OpenBox) → y.number.0 ≡ number → entries_of number (slice_set v.boxes k y) ≡ y.log.count = λ y is.
+    let found : (y : OpenBox) → y.number.0 ≡ number → log_count_of number (slice_set v.boxes k y) ≡ y.log.count = λ y is.
     ap (λ (o : Option OpenBox). option_map_or count o 0)
     (found_set v.map.store number k p.default y v.map.boxes v.boxes (store_sound h v p.store).boxes_rising p.store.box_logs p.below (ap (λ (o : OpenBox). o.number.0) (sym p.here) ∙ p.number_is) is) in
     let now = found x (ap (λ (n : BoxNo). n.0) same ∙ p.number_is) in
-    let then : entries_of number v.boxes ≡ b.log.count = ap (entries_of number) (sym (ap (slice_set v.boxes k) p.here ∙ set-get_or v.boxes k p.default)) ∙ found b p.number_is in
+    let then : log_count_of number v.boxes ≡ b.log.count = ap (log_count_of number) (sym (ap (slice_set v.boxes k) p.here ∙ set-get_or v.boxes k p.default)) ∙ found b p.number_is in
     omega (arith, now, then, counted)
 
 -- ---- what is due

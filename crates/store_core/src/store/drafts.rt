@@ -22,7 +22,7 @@ ghost use Rattle.store_core.specs.Append.{AddsText};
 ghost use Rattle.store_core.specs.Drafts.{AllFitBehind, AreNamedButFor, GivesLists, IsBoxDraft, IsHeldDraft, IsNewer, IsOutOfForce, ListsMessages, boxes_with, listed_with, meanings_with};
 ghost use Rattle.store_core.specs.Dues.{KeepsStored, due_at, leak_at, listed_at};
 ghost use Rattle.store_core.specs.MadeLogs.{has_made_log};
-ghost use Rattle.store_core.specs.Value.{entries_of, entry_room, indexes_of, list_numbered};
+ghost use Rattle.store_core.specs.Value.{log_count_of, entry_room, indexes_of, list_numbered};
 ghost use Rattle.store_core.specs.declared.error.StepError.TheVariants as step_error;
 
 use super::append_map::append_entry;
@@ -203,7 +203,7 @@ impl<D: Disk> Store<D> {
     /// How many entries the log of this mailbox of the map has.
     pub fn box_entries(&self, mailbox: BoxNo) -> u64
         requires { IsTrue (is_some (box_at self.now.map mailbox.0)) }
-        ensures { result ≡ entries_of mailbox.0 self.now.boxes }
+        ensures { result ≡ log_count_of mailbox.0 self.now.boxes }
     {
         match with_number(&self.boxes, mailbox) {
             Some(open_box) => open_box.log.count(),

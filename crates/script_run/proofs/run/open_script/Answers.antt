@@ -9,6 +9,11 @@ use Rattle.script_run.proofs.run.open_script.Goals as goal
 pub returns-in_default-clause-refused : goal.returns-in_default-clause-refused
 returns-in_default-clause-refused g c = unopened_still (g.D.Disk.history c.args.disk) (g.D.Disk.faults c.args.disk)
 
+pub returns-in-Err-clause-refused : goal.returns-in-Err-clause-refused
+returns-in-Err-clause-refused g c =
+    let o = c.in-Err.ensures in
+    record { cause = o.refused; idle = o.idle; untouched = o.untouched; stays = o.mail_stays; closed_well = o.closed_well; moments = o.any_moment; settled_again = o.settled_again; carried = o.carried; fault = o.fault; unfailed = o.unfailed }
+
 pub of-requires-in-Ok-open_store-clause-unused : goal.of-requires-in-Ok-open_store-clause-unused
 of-requires-in-Ok-open_store-clause-unused g c =
     let o = c.in-Ok-open_store.ensures in (

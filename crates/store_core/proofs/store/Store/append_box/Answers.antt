@@ -3,7 +3,7 @@ use Rattle.store_core.proofs.Common.{kept_begins}
 use Rattle.std.proofs.Common.{Err}
 use Rattle.model_appends.specs.Appending.{lists_by}
 use Rattle.store_core.specs.Append.{Brings}
-use Rattle.store_core.specs.Value.{entries_of}
+use Rattle.store_core.specs.Value.{log_count_of}
 use Rattle.store_core.proofs.BoxAppendLemmas.{store_there, stopped_there}
 use Rattle.store_core.proofs.BoxCrashLemmas.{leaves_there, settled_there, stored_there, leaves_none}
 use Rattle.store_core.proofs.KeptMailLemmas.{mail_boxed}
@@ -87,7 +87,7 @@ returns-in-Ok-clause-due g c =
 
 pub returns-in-Ok-clause-counted : goal.returns-in-Ok-clause-counted
 returns-in-Ok-clause-counted g c =
-    subst (λ v. entries_of c.args.mailbox.0 (slice_set c.self.inside.boxes.items c.in-Some.place c.append_in.new.open_box) ≡ entries_of c.args.mailbox.0 v.boxes + 1) c.self.view_is
+    subst (λ v. log_count_of c.args.mailbox.0 (slice_set c.self.inside.boxes.items c.in-Some.place c.append_in.new.open_box) ≡ log_count_of c.args.mailbox.0 v.boxes + 1) c.self.view_is
     (counted_there _ _ c.in-Some.place c.index_mut.result.now c.append_in.new.open_box c.args.mailbox.0 c.args.entry.now (placed _ _ c.args.self.now c.deref.result.now c.in-Some.place c.index_mut.result.now c.args.mailbox.0 c.args.entry.now c.self.invariant.1 c.self.view_is c.deref.ensures.value c.requires.running c.requires.range c.requires.fits c.requires.held c.requires.record c.in-Some.ensures.some c.index_mut.ensures.value) c.in-Ok.ensures.same.number c.in-Ok.ensures.counted)
 
 pub returns-in-Ok-clause-leak : goal.returns-in-Ok-clause-leak
