@@ -27,7 +27,7 @@ use Rattle.store_core.specs.Running.{IsStore}
 use Rattle.store_core.specs.Value.{StoreValue, list_numbered}
 use Rattle.store_core.specs.declared.error.StepError.{StepError}
 use Rattle.store_core.specs.declared.error.StepError.TheVariants as step_error
-use Rattle.box_snapshot.specs.BoxFilled.{CanBeWrittenAnew, IsBoxFilled, entries_anew}
+use Rattle.box_snapshot.specs.BoxFilled.{CanBeRewritten, IsBoxFilled, entries_anew}
 use Rattle.box_snapshot.specs.Due.{is_due_at}
 use Rattle.box_snapshot.specs.Rewrites.{AreNamesSynced, Rewrites, SyncsMailNames}
 use Rattle.box_snapshot.proofs.BoxFillLemmas.{anew_there, own_named}
@@ -94,7 +94,7 @@ box_filled_first old new w number generation draft d empty nothing counted same 
 
 -- ---- with all entries it means what the log means
 
-pub means_anew : {D : Type 0} (v w : StoreValue D) (number : ℕ) (m n : BoxMeaning) → LeavesValue v w → list_numbered v number ≡ Some m → CanBeWrittenAnew v.map m → n ≡ box_meaning (entries_anew number w) → list_numbered v number ≡ Some n
+pub means_anew : {D : Type 0} (v w : StoreValue D) (number : ℕ) (m n : BoxMeaning) → LeavesValue v w → list_numbered v number ≡ Some m → CanBeRewritten v.map m → n ≡ box_meaning (entries_anew number w) → list_numbered v number ≡ Some n
 means_anew v w number m n same is can means =
     let anew : entries_anew number w ≡ entries_anew number v = ap (λ (s : StoreValue _). entries_anew number s) same in
     let there = anew_there number v (Some m) m (sym is) refl in

@@ -13,7 +13,7 @@ use Rattle.model_meaning.specs.MapMeaning.{MapMeaning}
 use Rattle.model_rewritten.specs.Rewriting.{box_snapshot, next_from, row_entry}
 use Rattle.model_store.specs.Opening.{HasItsRecord}
 use Rattle.store_core.specs.Drafts.{AllFitBehind}
-use Rattle.box_snapshot.specs.BoxFilled.{CanBeWrittenAnew}
+use Rattle.box_snapshot.specs.BoxFilled.{CanBeRewritten}
 use Rattle.box_snapshot.proofs.MapGroupLemmas.{each_part}
 
 -- of entries that fit one behind another, the first do, and the rest behind them
@@ -56,7 +56,7 @@ pub record IsNextBoxGroup (mapped : MapMeaning) (all : List BoxEntry) (from : �
   pub within : from + length group ≤ length all
   pub short : length all ≤ 1000001
 
-box_group_next : (mapped : MapMeaning) (m : BoxMeaning) (from : ℕ) → CanBeWrittenAnew mapped m → from < length (box_snapshot m) → IsNextBoxGroup mapped (box_snapshot m) from (take 16 (drop from (box_snapshot m)))
+box_group_next : (mapped : MapMeaning) (m : BoxMeaning) (from : ℕ) → CanBeRewritten mapped m → from < length (box_snapshot m) → IsNextBoxGroup mapped (box_snapshot m) from (take 16 (drop from (box_snapshot m)))
 box_group_next mapped m from can within =
     let all : List BoxEntry = box_snapshot m in
     let r = can.rewritten in
@@ -84,7 +84,7 @@ box_group_next mapped m from can within =
     }
 
 -- of the mailbox that the store has with a number
-pub group_next_of : (mapped : MapMeaning) (list : Option BoxMeaning) (from : ℕ) (group : List BoxEntry) → ((m : BoxMeaning) → list ≡ Some m → CanBeWrittenAnew mapped m) → from < length (option_map_or box_snapshot list [])
+pub group_next_of : (mapped : MapMeaning) (list : Option BoxMeaning) (from : ℕ) (group : List BoxEntry) → ((m : BoxMeaning) → list ≡ Some m → CanBeRewritten mapped m) → from < length (option_map_or box_snapshot list [])
     → group ≡ take 16 (drop from (option_map_or box_snapshot list [])) → IsNextBoxGroup mapped (option_map_or box_snapshot list []) from group
 group_next_of mapped None from group can within is = absurd (let h : from < 0 = within in omega (arith, h))
 group_next_of mapped (Some m) from group can within is = subst (IsNextBoxGroup mapped (box_snapshot m) from) (sym is) (box_group_next mapped m from (can m refl) within)

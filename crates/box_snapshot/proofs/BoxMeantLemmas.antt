@@ -20,7 +20,7 @@ use Rattle.store_core.specs.Drafts.{BoxDraftValue, listed_with}
 use Rattle.store_core.specs.Dues.{due_at, leak_at}
 use Rattle.store_core.specs.Running.{IsStore}
 use Rattle.store_core.specs.Value.{StoreValue, indexes_of, list_numbered}
-use Rattle.box_snapshot.specs.BoxFilled.{CanBeWrittenAnew}
+use Rattle.box_snapshot.specs.BoxFilled.{CanBeRewritten}
 
 -- a log of good entries that means this, each of whose messages has its record
 record IsGoodLog (mapped : MapMeaning) (m : BoxMeaning) : Type 0 where
@@ -41,7 +41,7 @@ log_there mapped number (b ∷ bs) (l ∷ ls) m good records is = elim (cases_Bo
 ]
 
 pub can_be_written : {D : Type 0} (h : Option History) (v : StoreValue D) (number : ℕ) (m : BoxMeaning) → IsStore h v → ((entries : List BoxEntry) → AllBoxFit [] entries → AllByRecursion BoxInRange entries → IsSoundBox (box_meaning entries))
-    → ((n : BoxMeaning) → IsSoundBox n → IsRewrittenBox n (box_snapshot n)) → list_numbered v number ≡ Some m → CanBeWrittenAnew v.map m
+    → ((n : BoxMeaning) → IsSoundBox n → IsRewrittenBox n (box_snapshot n)) → list_numbered v number ≡ Some m → CanBeRewritten v.map m
 can_be_written h v number m s sound anew is =
     let log = log_there v.map number v.map.boxes s.logs m s.good.box_entries
     (subst (λ (mapped : MapMeaning). AllByRecursion (λ log. All (HasItsRecord mapped) (rows_after log)) s.logs) (sym s.map_is) s.good.records)

@@ -19,7 +19,7 @@ use Rattle.store_core.specs.Running.{IsStore}
 use Rattle.store_core.specs.Value.{StoreValue, indexes_of}
 use Rattle.store_core.specs.declared.error.StepError.{StepError}
 use Rattle.store_core.specs.declared.error.StepError.TheVariants as step_error
-use Rattle.box_snapshot.specs.Filled.{IsDraftFilled}
+use Rattle.box_snapshot.specs.MapFilled.{IsMapFilled}
 use Rattle.box_snapshot.specs.Rewrites.{AreNamesSynced, Rewrites, SyncsMailNames}
 use Rattle.box_snapshot.proofs.MapFillLemmas.{draft_is_log, draft_named, same_map}
 use Rattle.box_snapshot.proofs.RewritesLemmas.{LeavesValue, call_rewrites, mail_named, mail_named_three, names_after, safe_always}
@@ -44,7 +44,7 @@ made_rewrites history old new result same images stays grows stopped memory sett
     call_rewrites history old new result same images stays grows stopped memory settled (mail_if_made (history old.disk) (history new.disk) new result d others) (names_if_made (history old.disk) (history new.disk) new result d others)
 
 -- it has no entries
-pub filled_first : {D : Type 0} (old new : Option History) (v w : StoreValue D) (draft : MapDraftValue) → LeavesValue v w → IsMapDraft new draft w → draft.map.meaning ≡ map_meaning v.map.store [] → Drafts draft.log [] new → draft.log.count ≡ 0 → NamedButFor draft.log.name old new → IsDraftFilled new [] draft w
+pub filled_first : {D : Type 0} (old new : Option History) (v w : StoreValue D) (draft : MapDraftValue) → LeavesValue v w → IsMapDraft new draft w → draft.map.meaning ≡ map_meaning v.map.store [] → Drafts draft.log [] new → draft.log.count ≡ 0 → NamedButFor draft.log.name old new → IsMapFilled new [] draft w
 filled_first old new v w draft same d empty nothing counted others = record {
   drafted = d;
   means = empty ∙ ap (λ (m : MapMeaning). map_meaning m.store []) (sym (same_map v w same));

@@ -11,7 +11,7 @@ ghost use Rattle.store_core.specs.Dues.{due_at, leak_at};
 ghost use Rattle.store_core.specs.Running.{IsStore};
 ghost use Rattle.store_core.specs.Value.{list_numbered};
 ghost use Rattle.store_core.specs.declared.error.StepError.TheVariants as step_error;
-ghost use Rattle.box_snapshot.specs.BoxFilled.{CanBeWrittenAnew, IsBoxFilled, OnlyLogsBut, entries_anew};
+ghost use Rattle.box_snapshot.specs.BoxFilled.{CanBeRewritten, IsBoxFilled, OnlyLogsBut, entries_anew};
 ghost use Rattle.box_snapshot.specs.Due.{is_due_at};
 ghost use Rattle.box_snapshot.specs.Rewrites.{IsBoxWritten, LeavesNoOldLogs, OnlyLogsInForce, Rewrites};
 
@@ -156,7 +156,7 @@ fn next_group<D: Disk>(
 
 /// The entries of a mailbox's log written anew fit one behind another, and mean what it means.
 fn known_snapshot<D: Disk>(store: &Store<D>, mailbox: BoxNo)
-    ensures { (m : BoxMeaning) → list_numbered store.now mailbox.0 ≡ Some m → CanBeWrittenAnew store.now.map m }
+    ensures { (m : BoxMeaning) → list_numbered store.now mailbox.0 ≡ Some m → CanBeRewritten store.now.map m }
 {
     store.facts();
     meanings_are_sound();
