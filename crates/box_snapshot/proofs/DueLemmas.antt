@@ -8,7 +8,7 @@ use Rattle.box_index.specs.State.{BoxState}
 use Rattle.model_meaning.specs.MapMeaning.{MapBox, MapMeaning}
 use Rattle.model_store.specs.Listing.{meaning_numbered}
 use Rattle.store_core.specs.Running.{AreBoxLogs, IsStore}
-use Rattle.store_core.specs.Value.{StoreValue, entries_of, indexes_of}
+use Rattle.store_core.specs.Value.{StoreValue, log_count_of, indexes_of}
 use Rattle.store_core.specs.declared.store.OpenBox.{OpenBox}
 
 -- the open mailbox with this number has what its log means and the generation of the map
@@ -39,7 +39,7 @@ due_of number ms bs (Some b) index generation o e f =
     rw (means, same)
 
 pub due_there : (number : ℕ) (store : List ℕ) (ms : List MapBox) (bs : List OpenBox) (index : BoxState) (generation : ℕ) (due : Bool) (entries rows : ℕ) → AreBoxLogs store ms bs
-    → Some index.meaning ≡ meaning_numbered number ms (indexes_of bs) → Some generation ≡ option_map (λ box. box.generation) (find (λ box. box.number == number) ms) → entries ≡ entries_of number bs → rows ≡ length index.meaning.rows
+    → Some index.meaning ≡ meaning_numbered number ms (indexes_of bs) → Some generation ≡ option_map (λ box. box.generation) (find (λ box. box.number == number) ms) → entries ≡ log_count_of number bs → rows ≡ length index.meaning.rows
     → due ≡ is_log_due entries (rows + 1) generation → due ≡ option_map_or is_box_due (find (λ b. b.number.0 == number) bs) false
 due_there number store ms bs index generation due entries rows a e f n r is =
     is ∙ rw (n, r) (due_of number ms bs (find (λ (b : OpenBox). b.number.0 == number) bs) index generation (in_step number store ms bs a) e f)

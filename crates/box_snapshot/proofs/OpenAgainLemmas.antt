@@ -19,7 +19,7 @@ use Rattle.model_store.specs.Safe.{LiesInFile}
 use Rattle.model_store.specs.Settled.{HasSameInstance, HasSameRegion, files_of}
 use Rattle.store_core.specs.Running.{IsStore}
 use Rattle.store_core.specs.Value.{StoreValue, indexes_of}
-use Rattle.box_snapshot.specs.Rewrites.{Rewrites, SyncsMail}
+use Rattle.box_snapshot.specs.Rewrites.{Rewrites, SyncsMailNames}
 
 -- ---- storage files and instances
 
@@ -33,14 +33,14 @@ reads_named f = elim (cases_Bool f.is_there) [
   | inr gone ↦ ap reading (cond-false f.is_there (record f { is_name_loose = false }) no_file gone) ∙ sym (cond-false f.is_there (Some f.octets) None gone)
 ]
 
-same_mail : (a b : DiskState) → SyncsMail a b → SameMail a b
+same_mail : (a b : DiskState) → SyncsMailNames a b → SameMail a b
 same_mail a b syncs name other = elim (syncs name other) [
   | inl same ↦ ap reading same
   | inr same ↦ ap reading same ∙ reads_named (a name)
 ]
 
-pub mail_reads : (old new : Option History) → Between SyncsMail old new → Between SameMail old new
-mail_reads old new syncs = between-map SyncsMail SameMail old new (λ a b s. same_mail a b s) syncs
+pub mail_reads : (old new : Option History) → Between SyncsMailNames old new → Between SameMail old new
+mail_reads old new syncs = between-map SyncsMailNames SameMail old new (λ a b s. same_mail a b s) syncs
 
 same_region : (a b : DiskState) (row : MapRecord) → SameMail a b → LiesInFile (files_of a) row → HasSameRegion (files_of a) (files_of b) row
 same_region a b row same l = record {
@@ -84,7 +84,7 @@ carries_any a b store entries logs opens carries s es ls also =
 abbrev pub Carries : DiskState → DiskState → Type 0
 Carries was now = (store : List ℕ) (entries : List MapEntry) (logs : List (List BoxEntry)) → Opens (files_of was) store entries logs → CarriesStore store entries logs (files_of was) (files_of now)
 
-of_told : {D : Type 0} (old new : StoreValue D) (h k : Option History) → IsStore h old → IsStore k new → old.stopped ≡ false → new.stopped ≡ false → MeansSame old.map new.map → indexes_of new.boxes ≡ indexes_of old.boxes → Between SyncsMail h k → Between Carries h k
+of_told : {D : Type 0} (old new : StoreValue D) (h k : Option History) → IsStore h old → IsStore k new → old.stopped ≡ false → new.stopped ≡ false → MeansSame old.map new.map → indexes_of new.boxes ≡ indexes_of old.boxes → Between SyncsMailNames h k → Between Carries h k
 of_told old new None k s t was runs means indexes mail = mail
 of_told old new (Some a) None s t was runs means indexes mail = absurd mail
 of_told old new (Some a) (Some b) s t was runs means indexes mail =

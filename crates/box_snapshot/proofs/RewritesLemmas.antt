@@ -23,7 +23,7 @@ use Rattle.store_core.specs.Value.{StoreValue, indexes_of}
 use Rattle.store_core.specs.declared.error.StepError.{StepError}
 use Rattle.store_core.specs.declared.error.StepError.TheVariants as step_error
 use Rattle.store_core.specs.declared.store.OpenBox.{OpenBox}
-use Rattle.box_snapshot.specs.Rewrites.{AreNamesSynced, LeavesNoOldLogs, OnlyLogsInForce, Rewrites, SyncsMail}
+use Rattle.box_snapshot.specs.Rewrites.{AreNamesSynced, LeavesNoOldLogs, OnlyLogsInForce, Rewrites, SyncsMailNames}
 
 -- ---- storage files and instances, and names
 
@@ -52,28 +52,28 @@ same_or_named f g h (inl a) (inr b) = inr (b ∙ ap named a)
 same_or_named f g h (inr a) (inl b) = inr (b ∙ a)
 same_or_named f g h (inr a) (inr b) = inr (b ∙ (ap named a ∙ named_twice f))
 
-pub mail_itself : (h : Option History) → Between SyncsMail h h
-mail_itself h = between-begins SyncsMail h (λ disk name other. inl refl)
+pub mail_itself : (h : Option History) → Between SyncsMailNames h h
+mail_itself h = between-begins SyncsMailNames h (λ disk name other. inl refl)
 
-pub mail_then : (old now new : Option History) → Between SyncsMail old now → Between SyncsMail now new → Between SyncsMail old new
-mail_then old now new first second = between-then SyncsMail SyncsMail SyncsMail old now new (λ a b c f s name other. same_or_named (a name) (b name) (c name) (f name other) (s name other)) first second
+pub mail_then : (old now new : Option History) → Between SyncsMailNames old now → Between SyncsMailNames now new → Between SyncsMailNames old new
+mail_then old now new first second = between-then SyncsMailNames SyncsMailNames SyncsMailNames old now new (λ a b c f s name other. same_or_named (a name) (b name) (c name) (f name other) (s name other)) first second
 
 -- what is no log is another file than a log
 other_than_log : (name log : FileName) → IsLogName log → (IsLogName name → ⊥) → name ≢ log
 other_than_log name log is other same = other (subst IsLogName (sym same) is)
 
 -- where only one log has changed, or three, or one with a sync of all names
-pub mail_beside : (log : FileName) (old new : Option History) → IsLogName log → SameButFor log old new → Between SyncsMail old new
-mail_beside log old new is others = between-map (λ a b. (other : FileName) → other ≢ log → b other ≡ a other) SyncsMail old new (λ a b same name other. inl (same name (other_than_log name log is other))) others
+pub mail_beside : (log : FileName) (old new : Option History) → IsLogName log → SameButFor log old new → Between SyncsMailNames old new
+mail_beside log old new is others = between-map (λ a b. (other : FileName) → other ≢ log → b other ≡ a other) SyncsMailNames old new (λ a b same name other. inl (same name (other_than_log name log is other))) others
 
-pub mail_named : (log : FileName) (old new : Option History) → IsLogName log → NamedButFor log old new → Between SyncsMail old new
+pub mail_named : (log : FileName) (old new : Option History) → IsLogName log → NamedButFor log old new → Between SyncsMailNames old new
 mail_named log None new is others = others
 mail_named log (Some old) None is others = absurd others
 mail_named log (Some old) (Some new) is others = λ name other. inr (others name (other_than_log name log is other))
 
-pub mail_named_three : (first second third : FileName) (old new : Option History) → IsLogName first → IsLogName second → IsLogName third → Between (AreNamedButFor first second third) old new → Between SyncsMail old new
+pub mail_named_three : (first second third : FileName) (old new : Option History) → IsLogName first → IsLogName second → IsLogName third → Between (AreNamedButFor first second third) old new → Between SyncsMailNames old new
 mail_named_three first second third old new is also too others =
-    between-map (AreNamedButFor first second third) SyncsMail old new (λ a b same name other. inr (same name (other_than_log name first is other) (other_than_log name second also other) (other_than_log name third too other))) others
+    between-map (AreNamedButFor first second third) SyncsMailNames old new (λ a b same name other. inr (same name (other_than_log name first is other) (other_than_log name second also other) (other_than_log name third too other))) others
 
 -- where all names but one were synced, and this one is, all are
 pub names_after : (log : FileName) (old new : Option History) → NamedButFor log old new → IfTold new (λ now. (now log).is_name_loose ≡ false) → IfTold new AreNamesSynced
@@ -146,7 +146,7 @@ pub value_rewrites : {D : Type 0} (history : D → Option History) (old new : St
     → ((lists : Lists) → IsSettledFor lists (history old.disk) → Leaves lists lists (history old.disk) (history new.disk))
     → ((m : MapMeaning) → MailIsKept m (history old.disk) (history new.disk)) → Grows (history old.disk) (history new.disk)
     → (new.stopped ≡ false → (lists : Lists) → IsSettledFor lists (history old.disk) → IsSettledFor lists (history new.disk))
-    → (new.stopped ≡ false → Between SyncsMail (history old.disk) (history new.disk))
+    → (new.stopped ≡ false → Between SyncsMailNames (history old.disk) (history new.disk))
     → (new.stopped ≡ false → (new ≡ old) ⊎ IfTold (history new.disk) AreNamesSynced) → Rewrites history old new
 value_rewrites history old new same images stays grows settled mail names = record {
   means = subst (λ (m : MapMeaning). MeansSame old.map m) (sym (ap (λ (s : StoreValue _). s.map) same)) (means_itself old.map);
@@ -172,7 +172,7 @@ pub call_rewrites : {D T : Type 0} (history : D → Option History) (old new : S
     → ((m : MapMeaning) → MailIsKept m (history old.disk) (history new.disk)) → Grows (history old.disk) (history new.disk)
     → IsErrOf result step_error.Stopped ↔ (new.stopped ≡ true) → (IsErrOf result step_error.NoMemory → new ≡ old)
     → OnOk result ((lists : Lists) → IsSettledFor lists (history old.disk) → IsSettledFor lists (history new.disk))
-    → OnOk result (Between SyncsMail (history old.disk) (history new.disk)) → OnOk result (IfTold (history new.disk) AreNamesSynced) → Rewrites history old new
+    → OnOk result (Between SyncsMailNames (history old.disk) (history new.disk)) → OnOk result (IfTold (history new.disk) AreNamesSynced) → Rewrites history old new
 call_rewrites history old new result same images stays grows stopped memory settled mail names =
     value_rewrites history old new same images stays grows
     (λ runs. elim (not_stopped old new result _ stopped memory settled runs) [
@@ -180,7 +180,7 @@ call_rewrites history old new result same images stays grows stopped memory sett
       | inr did ↦ did
     ])
     (λ runs. elim (not_stopped old new result _ stopped memory mail runs) [
-      | inl still ↦ subst (λ (s : StoreValue _). Between SyncsMail (history old.disk) (history s.disk)) (sym still) (mail_itself (history old.disk))
+      | inl still ↦ subst (λ (s : StoreValue _). Between SyncsMailNames (history old.disk) (history s.disk)) (sym still) (mail_itself (history old.disk))
       | inr did ↦ did
     ])
     (λ runs. not_stopped old new result _ stopped memory names runs)

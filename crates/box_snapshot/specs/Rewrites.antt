@@ -17,8 +17,8 @@ use Rattle.store_core.specs.Value.{StoreValue, indexes_of}
 use Rattle.store_core.specs.declared.store.OpenBox.{OpenBox}
 
 -- each storage file and each instance is as it was, but that its name may be synced
-abbrev pub SyncsMail : DiskState → DiskState → Type 0
-SyncsMail a b = (name : FileName) → (IsLogName name → ⊥) → (b name ≡ a name) ⊎ (b name ≡ named (a name))
+abbrev pub SyncsMailNames : DiskState → DiskState → Type 0
+SyncsMailNames a b = (name : FileName) → (IsLogName name → ⊥) → (b name ≡ a name) ⊎ (b name ≡ named (a name))
 
 -- each name is synced
 abbrev pub AreNamesSynced : DiskState → Type 0
@@ -36,7 +36,7 @@ pub record Rewrites {D : Type 0} (history : D → Option History) (old new : Sto
   pub mail_stays : (m : MapMeaning) → MailIsKept m (history old.disk) (history new.disk)
   pub grows : Grows (history old.disk) (history new.disk)
   pub settled : new.stopped ≡ false → (lists : Lists) → IsSettledFor lists (history old.disk) → IsSettledFor lists (history new.disk)
-  pub mail : new.stopped ≡ false → Between SyncsMail (history old.disk) (history new.disk)
+  pub mail : new.stopped ≡ false → Between SyncsMailNames (history old.disk) (history new.disk)
   pub names : new.stopped ≡ false → (new ≡ old) ⊎ IfTold (history new.disk) AreNamesSynced
 
 -- no log is there that the store doesn't need

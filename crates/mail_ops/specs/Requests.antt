@@ -9,7 +9,7 @@ use Rattle.mdbox_base.specs.declared.requests.Request.TheVariants as request
 use Rattle.list_machine.specs.Machine.{set_flags, set_words}
 use Rattle.model_lists.specs.Lists.{Lists}
 use Rattle.store_core.specs.Value.{StoreValue}
-use Rattle.mail_ops.specs.Flagging.{flag_refusal}
+use Rattle.mail_ops.specs.Flagging.{HasEntryMore, flag_refusal}
 use Rattle.mail_ops.specs.Listing.{listing_reply}
 use Rattle.mail_ops.specs.Wording.{WordsAnswers}
 
@@ -33,6 +33,12 @@ abbrev pub AppendsNothing : {D : Type 0} → Request → StoreValue D → Type 0
 AppendsNothing (request.Flag name uid flags) store = (why : Refusal) × (flag_refusal name uid.0 store ≡ Some why)
 AppendsNothing (request.Keywords name uid words) store = (why : Refusal) × (flag_refusal name uid.0 store ≡ Some why)
 AppendsNothing other store = Unit {0}
+
+-- the request, done, has added one entry to the log of its mailbox
+abbrev pub AppendsOne : {D : Type 0} → Request → StoreValue D → StoreValue D → Type 0
+AppendsOne (request.Flag name uid flags) old new = HasEntryMore name old new
+AppendsOne (request.Keywords name uid words) old new = HasEntryMore name old new
+AppendsOne other old new = Unit {0}
 
 -- The lists that the request makes of these if it is done: the message has the given flags, or keywords, and a listing leaves them as they are.
 abbrev pub lists_after : Request → Lists → Lists

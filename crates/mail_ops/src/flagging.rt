@@ -6,7 +6,7 @@ ghost use Rattle.mdbox_base.specs.declared.replies.Refusal.{Refusal};
 ghost use Rattle.mdbox_base.specs.declared.replies.Refusal.TheVariants as refusal;
 ghost use Rattle.mdbox_base.specs.declared.replies.Reply.TheVariants as reply;
 ghost use Rattle.mdbox_base.specs.declared.requests.Request.TheVariants as request;
-ghost use Rattle.mail_ops.specs.Flagging.{flag_refusal};
+ghost use Rattle.mail_ops.specs.Flagging.{HasEntryMore, flag_refusal};
 ghost use Rattle.mail_ops.specs.OnlyLogs.{ChangesOnlyLogs};
 ghost use Rattle.mail_ops.specs.declared.task.TaskStage.TheVariants as stage;
 ghost use Rattle.task_claims.specs.Claims.{no_claims};
@@ -26,6 +26,7 @@ pub fn flag<D: Disk>(store: &mut Store<D>, name: &Name, uid: Uid, flags: Flags) 
     ensures does { (around after : Around) (pins : ℕ → ℕ) → Steps HasNotBegun HasNotBegun around after (request.Flag name.now uid flags) (seen_of pins store.old (D.history store.old.disk) (D.faults store.old.disk)) (seen_of pins store.new (D.history store.new.disk) (D.faults store.new.disk)) result.1 (Some result.0) }
     ensures refused { (why : Refusal) → flag_refusal name.now uid.0 store.old ≡ Some why → (result.0 ≡ reply.Refused why) × (store.new ≡ store.old) }
     ensures done { flag_refusal name.now uid.0 store.old ≡ None → (result.0 ≡ reply.Done) ⊎ ((result.0 ≡ reply.Refused refusal.Stopped) × (store.new.stopped ≡ true)) }
+    ensures appended { result.0 ≡ reply.Done → HasEntryMore name.now store.old store.new }
     ensures due { (uid : ℕ) → due_at uid store.new ≡ due_at uid store.old }
     ensures leaves { store.new.stopped ≡ false → LeavesOthers no_claims store.old store.new (D.history store.old.disk) (D.history store.new.disk) }
     ensures keeps { ChangesOnlyLogs (KeepsRest store.old store.new) stage.First stage.First (progress.Done result.0) store.old store.new (D.history store.old.disk) (D.history store.new.disk) (D.faults store.old.disk) (D.faults store.new.disk) }

@@ -4,8 +4,9 @@ ghost use Rattle.journal.specs.Events.{Around};
 ghost use Rattle.mdbox_base.specs.declared.progress.Did.TheVariants as did;
 ghost use Rattle.mdbox_base.specs.declared.progress.Progress.TheVariants as progress;
 ghost use Rattle.mdbox_base.specs.declared.replies.Reply.{Reply};
+ghost use Rattle.mdbox_base.specs.declared.replies.Reply.TheVariants as reply;
 ghost use Rattle.task_steps.specs.Step.{HasNotBegun, Steps, ended_by};
-ghost use Rattle.mail_ops.specs.Requests.{IsOpsRequest, Replies, AppendsNothing};
+ghost use Rattle.mail_ops.specs.Requests.{IsOpsRequest, Replies, AppendsNothing, AppendsOne};
 ghost use Rattle.store_core.specs.Dues.{due_at};
 ghost use Rattle.store_core.specs.Keeping.{KeepsRest};
 ghost use Rattle.mail_ops.specs.Task.{IsAt};
@@ -84,6 +85,7 @@ impl OpsTask {
         ensures claims { store.new.stopped ≡ false → MovesOwnClaims no_claims no_claims result store.old store.new (D.history store.old.disk) (D.history store.new.disk) }
         ensures replies { (reply : Reply) × (result ≡ progress.Done reply) × Replies self.old.request store.old store.new reply }
         ensures same { AppendsNothing self.old.request store.old → store.new ≡ store.old }
+        ensures appended { result ≡ progress.Done reply.Done → AppendsOne self.old.request store.old store.new }
         ensures request { self.new.request ≡ self.old.request }
     {
         let TaskStage::First = self.stage;
@@ -99,6 +101,7 @@ fn only_event<D: Disk>(store: &mut Store<D>, request: &Request) -> (Reply, Did)
     ensures does { (around after : Around) (pins : ℕ → ℕ) → Steps HasNotBegun HasNotBegun around after request.now (seen_of pins store.old (D.history store.old.disk) (D.faults store.old.disk)) (seen_of pins store.new (D.history store.new.disk) (D.faults store.new.disk)) result.1 (Some result.0) }
     ensures replies { Replies request.now store.old store.new result.0 }
     ensures same { AppendsNothing request.now store.old → store.new ≡ store.old }
+    ensures appended { result.0 ≡ reply.Done → AppendsOne request.now store.old store.new }
     ensures due { (uid : ℕ) → due_at uid store.new ≡ due_at uid store.old }
     ensures leaves { store.new.stopped ≡ false → LeavesOthers no_claims store.old store.new (D.history store.old.disk) (D.history store.new.disk) }
     ensures keeps { ChangesOnlyLogs (KeepsRest store.old store.new) stage.First stage.First (progress.Done result.0) store.old store.new (D.history store.old.disk) (D.history store.new.disk) (D.faults store.old.disk) (D.faults store.new.disk) }

@@ -8,7 +8,7 @@ use Rattle.gate_log.specs.Log.{Drafts}
 use Rattle.gate_log.proofs.DraftLemmas.{held_draft}
 use Rattle.model_logs.specs.declared.log_head.LogKind.TheVariants as kind
 use Rattle.store_core.specs.Drafts.{AllFitBehind, BoxDraftValue, IsBoxDraft, IsHeldDraft, IsNewer, IsOutOfForce}
-use Rattle.store_core.proofs.DraftLemmas.{extended, roomier_draft}
+use Rattle.store_core.proofs.DraftLemmas.{drafts_nothing, extended}
 use Rattle.store_core.proofs.MadeLogLemmas.{apart_from_made, held_beside, held_named, made_kept, no_less, none_has}
 
 -- ---- a generation that the store doesn't need
@@ -50,7 +50,7 @@ new_draft h w draft log id room newer same logged roomy empty held = record {
   means = empty;
   name = ap (λ (l : LogState). l.name) roomy ∙ ap (λ (l : LogState). l.name) logged;
   head = ap (λ (l : LogState). l.head) roomy ∙ ap (λ (l : LogState). l.head) logged ∙ ap (λ (i : List ℕ). head_of i kind.Box draft.number.0 draft.generation) same;
-  reads = subst (λ (l : LogState). Drafts l [] h) (sym roomy) (roomier_draft log room [] h (held_draft log [] h held));
+  reads = drafts_nothing log draft.log room h roomy held;
   records = subst (λ (m : BoxMeaning). All (HasItsRecord w.map) m.rows) (sym empty) (All-nil (HasItsRecord w.map));
   newer = newer;
 }

@@ -1,12 +1,13 @@
 -- Drafts of mailbox logs: the texts of entries, and what a draft means with entries more.
 use Rattle.store_core.proofs.Common.{◌≡◌, ◌≤◌, ◌<◌, ◌+◌, ◌-◌, ℕ, List, [], ◌∷◌, ◌++◌, length, map, take, drop, All, Option, refl, sym, ◌∙◌, ap, subst, arith, append-nil, get_or, length-append, map-append, All-nil, All-cons, All-append, All-head, All-tail, History, if_told-map}
-use Rattle.store_core.proofs.Common.{BoxEntry, MapEntry, map_text, map_more, map_meaning, map_applied, MapInRange, box_text, BoxInRange, BoxMeaning, box_applied, box_meaning, row_made, HasItsRecord, MapMeaning, LogState, Reads, IsLogRead}
+use Rattle.store_core.proofs.Common.{BoxEntry, MapEntry, map_text, map_more, map_meaning, map_applied, MapInRange, box_text, BoxInRange, BoxMeaning, box_applied, box_meaning, row_made, HasItsRecord, MapMeaning, LogState, Reads, Holds, IsLogRead}
 use Rattle.std.proofs.Common.{fold, sum, append_assoc, length-drop}
 use Rattle.std.proofs.Math.Seq.{take-length}
 use Rattle.std.proofs.lemmas.List.{take-append-le, drop-append-le, take_more}
 use Rattle.std.proofs.lemmas.List.Sums.{sum_by-cons, sum_by-append}
 use Rattle.std.specs.List.{AllByRecursion}
 use Rattle.gate_log.specs.Log.{Drafts, IsLogDrafted, cut_by}
+use Rattle.gate_log.proofs.DraftLemmas.{held_draft}
 use Rattle.mdbox_base.specs.declared.entries.BoxEntry.TheVariants as entry
 use Rattle.model_appends.proofs.AppendOpenLemmas.{box_more_good, rows_have}
 use Rattle.model_meaning.proofs.BoxLemmas.{box_more}
@@ -107,9 +108,13 @@ pub read_draft : (log : LogState) (texts : List (List ℕ)) (h : Option History)
 read_draft log texts h d = if_told-map (IsLogDrafted log texts) (IsLogRead log texts) h (λ disk l. l.reads) d
 
 -- the room of a log is of no account
-pub roomier_draft : (log : LogState) (room : ℕ) (texts : List (List ℕ)) (h : Option History) → Drafts log texts h → Drafts (record log { room = room }) texts h
+roomier_draft : (log : LogState) (room : ℕ) (texts : List (List ℕ)) (h : Option History) → Drafts log texts h → Drafts (record log { room = room }) texts h
 roomier_draft log room texts h d = if_told-map (IsLogDrafted log texts) (IsLogDrafted (record log { room = room }) texts) h
     (λ disk l. record { reads = record { file = l.reads.file; end = l.reads.end; count = l.reads.count; head_fits = l.reads.head_fits; entries_fit = l.reads.entries_fit }; named = l.named; are_octets = l.are_octets }) d
+
+-- a log that was just made has no entries
+pub drafts_nothing : (log later : LogState) (room : ℕ) (h : Option History) → later ≡ record log { room = room } → Holds log [] h → Drafts later [] h
+drafts_nothing log later room h roomy held = subst (λ (l : LogState). Drafts l [] h) (sym roomy) (roomier_draft log room [] h (held_draft log [] h held))
 
 -- ---- the map log
 

@@ -1,7 +1,7 @@
 -- A switch to a draft in three steps: its sync, the entry that names it, and the removal of the old log.
 use Rattle.store_core.proofs.Common.{◌⊎◌, inl, inr, ◌≡◌, ◌≢◌, ◌<◌, ◌≤◌, ◌+◌, ◌-◌, ◌==◌, ℕ, Bool, true, false, if◌then◌else◌, List, [], ◌∷◌, map, find, Option, Some, None, All, refl, sym, ◌∙◌, ap, subst, arith, All-head, All-tail, All-cons, All-nil, All-contains, sum_by, count_by, sum_by-cons}
-use Rattle.store_core.proofs.Common.{FileState, DiskState, History, IfTold, Between, between-on, SameButFor, FileName, named, each_image-map, OthersAreNamed, BoxEntry, BoxNo, Lists, LogRow, BoxMeaning, rows_after, MapBox, MapRecord, MapMeaning, map_applied, HasItsRecord, IsAccounted, Safe, files_of, Leaves, KeepsStored, StoresMessage}
-use Rattle.store_core.proofs.Common.{IsStore, StoreValue, OpenBox, slice_set, indexes_of, list_numbered, no_file, NamedButFor, option_map, listed_of, number_beside, due_at, leak_at, listed_at, equal_is, ne_eqb, eq-eqb, bit, false≢true, cases_Bool, cond-true, cond-false, same_name-apart, same_name-true}
+use Rattle.store_core.proofs.Common.{DiskState, History, IfTold, Between, between-on, SameButFor, FileName, named, each_image-map, OthersAreNamed, BoxEntry, BoxNo, Lists, LogRow, BoxMeaning, rows_after, MapBox, MapRecord, MapMeaning, map_applied, HasItsRecord, IsAccounted, Safe, files_of, Leaves, KeepsStored, StoresMessage, FileState}
+use Rattle.store_core.proofs.Common.{LogState, Reads, IsStore, StoreValue, OpenBox, slice_set, indexes_of, list_numbered, no_file, NamedButFor, option_map, listed_of, number_beside, due_at, leak_at, listed_at, equal_is, ne_eqb, eq-eqb, bit, false≢true, cases_Bool, cond-true, cond-false, same_name-apart, same_name-true}
 use Rattle.std.proofs.Common.{Result, Ok, Err, OnOk, IsErr}
 use Rattle.std.specs.List.{AllByRecursion}
 use Rattle.disk_model.proofs.BetweenLemmas.{between-then}
@@ -13,14 +13,14 @@ use Rattle.model_lists.specs.Lists.{ListedMessage}
 use Rattle.model_meaning.proofs.AppliedLemmas.{boxes_by_generation, records_by_generation}
 use Rattle.model_meaning.specs.MapMeaning.{box_at, box_changed}
 use Rattle.model_store.specs.Stands.{AreListed}
-use Rattle.store_core.specs.Drafts.{AreNamedButFor, BoxDraftValue, GivesLists, IsHeldDraft, IsNewer, IsOutOfForce, ListsMessages, listed_with}
+use Rattle.store_core.specs.Drafts.{AreNamedButFor, BoxDraftValue, GivesLists, IsBoxDraft, IsHeldDraft, IsNewer, IsOutOfForce, ListsMessages, listed_with}
 use Rattle.store_core.proofs.BoxAppendLemmas.{store_sound}
 use Rattle.store_core.proofs.DueLemmas.{store_counts}
 use Rattle.store_core.proofs.MapAppendLemmas.{listed_there}
 use Rattle.store_core.proofs.MapDueLemmas.{leak_is, no_leak}
 use Rattle.model_rewritten.specs.Switched.{list_switched, log_switched}
 use Rattle.store_core.proofs.PutInForceLemmas.{CanSwitch, indexes_then, listed_then, switching}
-use Rattle.store_core.proofs.UnneededLogLemmas.{named_but}
+use Rattle.store_core.proofs.UnneededLogLemmas.{besides, named_but, reads_beside}
 use Rattle.model_octets.proofs.SearchLemmas.{found_one}
 
 -- ---- what crashes leave
@@ -172,6 +172,18 @@ old_generation v draft generation newer is = by_box (box_at v.map draft.number.0
         let less : box.generation < draft.generation = All-contains (λ (b : MapBox). b.number ≡ draft.number.0 → b.generation < draft.generation) v.map.boxes box newer.later there.0 (equal_is box.number draft.number.0 there.1) in
         let same : generation ≡ box.generation = cc e in
         omega (arith, less, same)
+
+-- the draft is another log
+pub draft_apart : {D : Type 0} → (h : Option History) (v : StoreValue D) (draft : BoxDraftValue) (number : BoxNo) (generation : ℕ) → IsBoxDraft h draft v → number ≡ draft.number → Some generation ≡ option_map (λ b. b.generation) (box_at v.map number.0)
+    → draft.log.name ≢ file.Box number.0 generation
+draft_apart h v draft number generation d same is e =
+    let less = old_generation v draft generation d.newer (subst (λ (k : BoxNo). Some generation ≡ option_map (λ b. b.generation) (box_at v.map k.0)) same is) in
+    let w : file.Box draft.number.0 draft.generation ≡ file.Box number.0 generation = sym d.name ∙ e in
+    let equal : draft.generation ≡ generation = cc w in absurd (omega (arith, less, equal))
+
+-- it is read on where the old one is removed
+pub reads_on : (name : FileName) (log : LogState) (texts : List (List ℕ)) (old new : Option History) → NamedButFor name old new → log.name ≢ name → Reads log texts old → Reads log texts new
+reads_on name log texts old new others apart r = reads_beside name log texts old new (besides name old new (named_but name old new others)) apart r
 
 pub old_out : {D : Type 0} → (v w : StoreValue D) (draft : BoxDraftValue) (number : BoxNo) (generation : ℕ) → IsNewer draft.number.0 draft.generation v → number ≡ draft.number → Some generation ≡ option_map (λ b. b.generation) (box_at v.map number.0)
     → (m : MapMeaning) → w.map ≡ map_applied (entry.G draft.number draft.generation) m → IsOutOfForce number.0 generation w.map

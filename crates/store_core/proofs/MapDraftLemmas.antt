@@ -10,7 +10,7 @@ use Rattle.model_logs.specs.declared.log_head.LogKind.TheVariants as kind
 use Rattle.model_rewritten.specs.Unneeded.{IsUnneeded}
 use Rattle.model_rewritten.proofs.OutOfForceLemmas.{unneeded_map}
 use Rattle.store_core.specs.MapDrafts.{AllMapFitBehind, IsHeldMapDraft, IsMapDraft, MapDraftValue}
-use Rattle.store_core.proofs.DraftLemmas.{map_extended, roomier_draft}
+use Rattle.store_core.proofs.DraftLemmas.{drafts_nothing, map_extended}
 
 -- the store needs no log of another generation
 pub free_map : {D : Type 0} → (h : Option History) (v : StoreValue D) (g : ℕ) → (s : IsStore h v) → v.map_log.name ≢ file.Map g → IsUnneeded s.generation v.map (file.Map g)
@@ -32,7 +32,7 @@ new_map_draft h w draft log id room number other same logged roomy empty held = 
   means = empty ∙ ap (λ (i : List ℕ). map_meaning i []) same;
   name = ap (λ (l : LogState). l.name) roomy ∙ ap (λ (l : LogState). l.name) logged;
   head = ap (λ (l : LogState). l.head) roomy ∙ ap (λ (l : LogState). l.head) logged ∙ ap (λ (i : List ℕ). head_of i kind.Map 0 draft.generation) same;
-  reads = subst (λ (l : LogState). Drafts l [] h) (sym roomy) (roomier_draft log room [] h (held_draft log [] h held));
+  reads = drafts_nothing log draft.log room h roomy held;
   is_generation = number;
   other = other;
 }

@@ -1,9 +1,9 @@
 -- The mailbox at the place that was found, and what is due with the entry.
 use Rattle.store_core.proofs.Common.{◌≡◌, ◌≢◌, ◌<◌, ◌≤◌, ◌+◌, ◌-◌, ◌^◌, ◌==◌, ℕ, zero, suc, Bool, true, false, cond, List, [], ◌∷◌, map, length, slice_get, slice_index_or, slice_set, Option, Some, None, All, refl, sym, ◌∙◌, ap, subst, arith, AllPairs, Contains, count_by, sum_by, ◌||◌, option_map}
 use Rattle.store_core.proofs.Common.{option_map_or, slice_get-get_or, ne_eqb, eq-eqb, All-head, All-tail, All-contains, History, MapUid, BoxEntry, box_text, BoxInRange, found_one, LogRow, BoxMeaning, row_made, rows_after, box_meaning, box_applied, MapRecord, MapBox, MapMeaning, map_meaning}
-use Rattle.store_core.proofs.Common.{record_at, has_map_uid, equal_is, meaning_numbered, HasItsRecord, listed_of, bit, due_by_box, logs_by, meanings_by, pairs_head, pairs_tail, Reads, due_change_of, change_beside, dues_by, number_beside, due_at, listed_at, leak_at, StoreValue, indexes_of}
+use Rattle.store_core.proofs.Common.{record_at, has_map_uid, equal_is, meaning_numbered, HasItsRecord, listed_of, bit, due_by_box, logs_by, meanings_by, pairs_head, pairs_tail, Reads, due_change_of, change_beside, dues_by, number_beside, due_at, listed_at, leak_at, StoreValue, indexes_of, BoxNo}
 use Rattle.store_core.proofs.Common.{list_numbered, entry_room, AreBoxLogs, CoverDues, IsStore, HasEntryRoom, OpenBox}
-use Rattle.std.proofs.lemmas.List.{get_or_default}
+use Rattle.std.proofs.lemmas.List.{get_or_default, set-get_or}
 use Rattle.mdbox_base.specs.declared.entries.BoxEntry.TheVariants as entry
 use Rattle.model_meaning.specs.BoxMeaning.{row_at, BoxFits}
 use Rattle.model_meaning.proofs.BoxSoundLemmas.{box_sound}
@@ -18,6 +18,8 @@ use Rattle.store_core.proofs.DueLemmas.{dues_each, listed_meant}
 use Rattle.store_core.proofs.DueChangeLemmas.{HasRemoved, due_is, as_many, number_few, raised_number}
 use Rattle.store_core.proofs.PickingLemmas.{Rising, Picked, above_first, indexes_set, room_at, rooms_set}
 use Rattle.store_core.proofs.BoxAppendLemmas.{Placed, covered, dues_of, store_sound, own_box}
+use Rattle.store_core.proofs.ReplacedLogLemmas.{found_set}
+use Rattle.store_core.specs.Value.{log_count_of}
 
 some_same : {X : Type 0} → (o : Option X) (a b : X) → o ≡ Some a → o ≡ Some b → a ≡ b
 some_same o a b p q = let h : Some a ≡ Some b = sym p ∙ q in cc h
@@ -103,6 +105,17 @@ pub taken_there : {D : Type 0} → (h : Option History) (v : StoreValue D) (k : 
 taken_there h v k b x number e p index =
     indexes_set v.map.store k p.default x e v.map.boxes v.boxes (store_sound h v p.store).boxes_rising p.store.box_logs p.below (index ∙ ap (λ (y : OpenBox). box_applied e y.index.meaning) p.here)
     ∙ ap (λ (n : ℕ). meanings_by n e v.map.boxes (indexes_of v.boxes)) (ap (λ (y : OpenBox). y.number.0) (sym p.here) ∙ p.number_is)
+
+-- how many entries its log has
+pub counted_there : {D : Type 0} → (h : Option History) (v : StoreValue D) (k : ℕ) (b x : OpenBox) (number : ℕ) (e : BoxEntry) → Placed h v k b number e → x.number ≡ b.number → x.log.count ≡ b.log.count + 1 → log_count_of number (slice_set v.boxes k x) ≡ log_count_of number v.boxes + 1
+counted_there h v k b x number e p same counted =
+    let count : OpenBox → ℕ = λ o. o.log.count in
+    let found : (y : OpenBox) → y.number.0 ≡ number → log_count_of number (slice_set v.boxes k y) ≡ y.log.count = λ y is.
+    ap (λ (o : Option OpenBox). option_map_or count o 0)
+    (found_set v.map.store number k p.default y v.map.boxes v.boxes (store_sound h v p.store).boxes_rising p.store.box_logs p.below (ap (λ (o : OpenBox). o.number.0) (sym p.here) ∙ p.number_is) is) in
+    let now = found x (ap (λ (n : BoxNo). n.0) same ∙ p.number_is) in
+    let then : log_count_of number v.boxes ≡ b.log.count = ap (log_count_of number) (sym (ap (slice_set v.boxes k) p.here ∙ set-get_or v.boxes k p.default)) ∙ found b p.number_is in
+    omega (arith, now, then, counted)
 
 -- ---- what is due
 

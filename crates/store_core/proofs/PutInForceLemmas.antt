@@ -24,8 +24,8 @@ use Rattle.model_store.specs.Stands.{AreListed, HasLog}
 use Rattle.model_rewritten.specs.Switched.{list_switched, log_switched}
 use Rattle.model_rewritten.proofs.SwitchLemmas.{leaves_switched, same_append, switch_append}
 use Rattle.model_rewritten.proofs.SwitchOpenLemmas.{good_switched, means_switched, opens_switched}
+use Rattle.store_core.specs.Drafts.{BoxDraftValue, GivesLists, IsHeldDraft, IsNewer, boxes_with, listed_with, meanings_with}
 use Rattle.store_core.specs.Value.{list_numbered}
-use Rattle.store_core.specs.Drafts.{BoxDraftValue, GivesLists, IsHeldDraft, IsNewer, listed_with, meanings_with}
 use Rattle.store_core.proofs.BoxAppendLemmas.{disk_more, is_log, root_stays, store_sound}
 use Rattle.store_core.proofs.BoxCrashLemmas.{ReadsImage}
 use Rattle.store_core.proofs.DueLemmas.{AreNumbers, at_own_place, dues_each, listed_meant}
@@ -37,7 +37,7 @@ use Rattle.store_core.proofs.MapAppendLemmas.{boxes_read}
 use Rattle.store_core.proofs.MapCrashLemmas.{held_map}
 use Rattle.store_core.proofs.NamingLemmas.{Appends, leaves_by, settled_by}
 use Rattle.store_core.proofs.PickingLemmas.{reads_other}
-use Rattle.store_core.proofs.ReplacedLogLemmas.{covered_counted, found_set, logs_set, meanings_are, meanings_set, meanings_stay, read_set, refs_counted}
+use Rattle.store_core.proofs.ReplacedLogLemmas.{boxes_set, covered_counted, logs_set, meanings_are, meanings_set, read_set, refs_counted, meanings_stay}
 use Rattle.store_core.proofs.UnneededLogLemmas.{map_known}
 
 -- the entry that names a draft
@@ -364,9 +364,12 @@ pub in_range_then : {D : Type 0} → (h : Option History) (v : StoreValue D) (dr
 in_range_then h v draft b place c = in_range_there v draft c.draft_held.drafted.newer
 
 -- the open log of the mailbox is the draft's
-pub log_then : {D : Type 0} → (h : Option History) (v : StoreValue D) (draft : BoxDraftValue) (b : OpenBox) (place : ℕ) → CanSwitch h v draft b place → option_map (λ o. o.log) (find (λ o. o.number.0 == draft.number.0) (slice_set v.boxes place b)) ≡ Some draft.log
-log_then h v draft b place c =
-    ap (option_map (λ (o : OpenBox). o.log)) (found_set v.map.store draft.number.0 place b b v.map.boxes v.boxes (store_sound h v c.store).boxes_rising c.store.box_logs c.below c.at (ap (λ (n : BoxNo). n.0) c.number)) ∙ ap Some c.log
+pub boxes_then : {D : Type 0} → (h : Option History) (v : StoreValue D) (draft : BoxDraftValue) (b : OpenBox) (place : ℕ) → CanSwitch h v draft b place → slice_set v.boxes place b ≡ boxes_with draft v.boxes
+boxes_then h v draft b place c =
+    let is : b ≡ record { number = draft.number; log = draft.log; index = draft.index } =
+    ap (λ (n : BoxNo). record b { number = n }) c.number ∙ ap (λ (l : LogState). record b { number = draft.number; log = l }) c.log ∙ ap (λ (i : _). record { number = draft.number; log = draft.log; index = i }) c.index in
+    boxes_set v.map.store draft.number.0 place b b v.map.boxes v.boxes (store_sound h v c.store).boxes_rising c.store.box_logs c.below c.at
+    ∙ ap (λ (o : OpenBox). map (λ (x : OpenBox). if x.number.0 == draft.number.0 then o else x) v.boxes) is
 
 -- its log has room too
 pub room_then : {D : Type 0} → (v w : StoreValue D) (b : OpenBox) (place : ℕ) → HasEntryRoom v → w.map_log.room ≡ v.map_log.room → w.boxes ≡ slice_set v.boxes place b → entry_room ≤ b.log.room → HasEntryRoom w

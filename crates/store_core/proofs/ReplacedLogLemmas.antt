@@ -134,6 +134,31 @@ read_set store k (suc place) d b log h (m ∷ ms) (o ∷ os) (l ∷ ls) rising a
     subst (λ (t : Bool). ReadBoxLogs h (o ∷ slice_set os place b) ((if t then log else l) ∷ log_switched k log ms ls)) (sym (ne_eqb k m.number (λ (e : k ≡ m.number). omega (arith, later, e))))
     (r.0, read_set store k place d b log h ms os ls (pairs_tail Rising m ms rising) a.3 (omega (arith, below)) is reads r.1)
 
+no_other : (store : List ℕ) (k : ℕ) (x : OpenBox) (b : MapBox) (mailboxes : List MapBox) (boxes : List OpenBox) → All (Rising b) mailboxes → AreBoxLogs store mailboxes boxes → b.number ≡ k → map (λ o. if o.number.0 == k then x else o) boxes ≡ boxes
+no_other store k x b [] [] above a is = refl
+no_other store k x b [] (o ∷ os) above a is = absurd a
+no_other store k x b (m ∷ ms) [] above a is = absurd a
+no_other store k x b (m ∷ ms) (o ∷ os) above a is =
+    let less : b.number < m.number = All-head (Rising b) m ms above in
+    let own : o.number.0 ≡ m.number = a.0 in
+    ap (λ (t : Bool). (if t then x else o) ∷ map (λ (y : OpenBox). if y.number.0 == k then x else y) os) (ne_eqb o.number.0 k (λ (e : o.number.0 ≡ k). omega (arith, less, own, is, e)))
+    ∙ ap (λ (xs : List OpenBox). o ∷ xs) (no_other store k x b ms os (All-tail (Rising b) m ms above) a.3 is)
+
+-- the open log with this number is another
+pub boxes_set : (store : List ℕ) (k place : ℕ) (d b : OpenBox) (mailboxes : List MapBox) (boxes : List OpenBox) → AllPairs Rising mailboxes → AreBoxLogs store mailboxes boxes → place < length boxes → (slice_index_or boxes place d).number.0 ≡ k
+    → slice_set boxes place b ≡ map (λ o. if o.number.0 == k then b else o) boxes
+boxes_set store k place d b [] [] rising a below is = absurd (omega (arith, below))
+boxes_set store k place d b [] (o ∷ os) rising a below is = absurd a
+boxes_set store k place d b (m ∷ ms) [] rising a below is = absurd a
+boxes_set store k zero d b (m ∷ ms) (o ∷ os) rising a below is =
+    sym (ap (λ (t : Bool). (if t then b else o) ∷ map (λ (y : OpenBox). if y.number.0 == k then b else y) os) (eq-eqb o.number.0 k is)
+    ∙ ap (λ (xs : List OpenBox). b ∷ xs) (no_other store k b m ms os (pairs_head Rising m ms rising) a.3 (sym a.0 ∙ is)))
+boxes_set store k (suc place) d b (m ∷ ms) (o ∷ os) rising a below is =
+    let later = number_later store k place d ms os m (pairs_head Rising m ms rising) a.3 (omega (arith, below)) is in
+    let own : o.number.0 ≡ m.number = a.0 in
+    ap (λ (xs : List OpenBox). o ∷ xs) (boxes_set store k place d b ms os (pairs_tail Rising m ms rising) a.3 (omega (arith, below)) is)
+    ∙ sym (ap (λ (t : Bool). (if t then b else o) ∷ map (λ (y : OpenBox). if y.number.0 == k then b else y) os) (ne_eqb o.number.0 k (λ (e : o.number.0 ≡ k). omega (arith, later, own, e))))
+
 -- the open log is found by its number
 pub found_set : (store : List ℕ) (k place : ℕ) (d b : OpenBox) (mailboxes : List MapBox) (boxes : List OpenBox) → AllPairs Rising mailboxes → AreBoxLogs store mailboxes boxes → place < length boxes → (slice_index_or boxes place d).number.0 ≡ k → b.number.0 ≡ k
     → find (λ o. o.number.0 == k) (slice_set boxes place b) ≡ Some b

@@ -103,7 +103,7 @@ pub stored_free : (name : FileName) (old new : Option History) → IsLogName nam
 stored_free name old new is change =
     between-map (IsBeside name) (λ a b. (row : MapRecord) (octets : List ℕ) → StoresMessage (files_of a) row octets → StoresMessage (files_of b) row octets) old new (λ a b c row octets h. stored_beside name a b row octets is c h) change
 
-reads_beside : (name : FileName) (log : LogState) (entries : List (List ℕ)) (old new : Option History) → Between (IsBeside name) old new → log.name ≢ name → Reads log entries old → Reads log entries new
+pub reads_beside : (name : FileName) (log : LogState) (entries : List (List ℕ)) (old new : Option History) → Between (IsBeside name) old new → log.name ≢ name → Reads log entries old → Reads log entries new
 reads_beside name log entries old new change apart r =
     between-on (IsBeside name) (IsLogRead log entries) (IsLogRead log entries) old new (λ a b c i. record { file = c.reads log.name apart ∙ i.file; end = i.end; count = i.count; head_fits = i.head_fits; entries_fit = i.entries_fit }) change r
 

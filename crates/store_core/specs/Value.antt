@@ -90,8 +90,8 @@ abbrev pub list_numbered : {D : Type 0} → StoreValue D → ℕ → Option BoxM
 list_numbered store number = meaning_numbered number store.map.boxes (indexes_of store.boxes)
 
 -- how many entries the log of the mailbox with this number has, 0 where there is none
-abbrev pub entries_of : ℕ → List OpenBox → ℕ
-entries_of number boxes = option_map_or (λ b. b.log.count) (find (λ b. b.number.0 == number) boxes) 0
+abbrev pub log_count_of : ℕ → List OpenBox → ℕ
+log_count_of number boxes = option_map_or (λ b. b.log.count) (find (λ b. b.number.0 == number) boxes) 0
 
 -- how many listed messages have this GUID
 abbrev pub references_to : {D : Type 0} → StoreValue D → List ℕ → ℕ

@@ -38,6 +38,7 @@ fn append_text<D: Disk>(log: &mut GateLog, disk: &mut D, entry: &BoxEntry) -> Re
     ensures fault { ChangeFaultCounted (IsErr result) (D.faults disk.old) (D.faults disk.new) }
     ensures unfailed { OnOk result (NoFault (D.faults disk.old) (D.faults disk.new)) }
     ensures log { IsSameLog log.old log.new }
+    ensures count { OnOk result (log.new.count ≡ log.old.count + 1) }
 {
     let mut room = [0; LONGEST];
     let text = &mut room[..box_entry_size(entry)];
@@ -112,6 +113,7 @@ pub(crate) fn append_in<D: Disk>(
     ensures fault { ChangeFaultCounted (IsErrOf result step_error.Stopped) (D.faults disk.old) (D.faults disk.new) }
     ensures unfailed { OnOk result (NoFault (D.faults disk.old) (D.faults disk.new)) }
     ensures same { IsSameBox open_box.old open_box.new }
+    ensures counted { OnOk result (open_box.new.log.count ≡ open_box.old.log.count + 1) }
 {
     let own = take_memory(alloc, open_box, entry)?;
     append_text(&mut open_box.log, disk, entry)?;

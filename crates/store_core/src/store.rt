@@ -20,7 +20,7 @@ ghost use Rattle.storage_files.specs.Files.{AreFilesInOrder};
 ghost use Rattle.store_core.specs.Append.{FitsBox, Brings};
 ghost use Rattle.store_core.specs.Dues.{due_at, leak_at, KeepsStored};
 ghost use Rattle.store_core.specs.Keeping.{KeepsMail};
-ghost use Rattle.store_core.specs.Value.{entries_of, indexes_of, newly_open, with_entry_room, list_named, list_numbered, references_to};
+ghost use Rattle.store_core.specs.Value.{log_count_of, indexes_of, newly_open, with_entry_room, list_named, list_numbered, references_to};
 ghost use Rattle.store_core.specs.Running.{HasEntryRoom, IsStore};
 ghost use Rattle.store_core.specs.StoreInstances.{HasKnownInstances};
 ghost use Rattle.store_core.specs.declared.error.StepError.TheVariants as step_error;
@@ -289,7 +289,7 @@ impl<D: Disk> Store<D> {
         ensures leak { (uid : ℕ) → leak_at uid self.new ≡ leak_at uid self.old }
 
         // The log has one entry more.
-        ensures counted { OnOk result (entries_of mailbox.0 self.new.boxes ≡ entries_of mailbox.0 self.old.boxes + 1) }
+        ensures counted { OnOk result (log_count_of mailbox.0 self.new.boxes ≡ log_count_of mailbox.0 self.old.boxes + 1) }
 
         // Each record stores what it stored. Storage files and instances are as they were.
         ensures stored { OnOk result (KeepsStored (D.history self.old.disk) (D.history self.new.disk)) }

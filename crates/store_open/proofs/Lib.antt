@@ -1,5 +1,6 @@
 pub mod CheckedLemmas
 pub mod ClosedStoreLemmas
+pub mod DueLogLemmas
 pub mod FaultLemmas
 pub mod FirstFilesLemmas
 pub mod FirstLogsLemmas
@@ -10,6 +11,9 @@ pub mod NewLogLemmas
 pub mod NewStoreLemmas
 pub mod OldLogLemmas
 pub mod OpenStoreLemmas
+pub mod RewrittenLemmas
+pub mod RewrittenSweepLemmas
 pub mod RootFrontLemmas
 pub mod StillOpensLemmas
 pub mod SweptStoreLemmas
+pub mod SyncedMailLemmas

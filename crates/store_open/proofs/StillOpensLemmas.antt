@@ -6,6 +6,8 @@ use Rattle.disk_model.specs.declared.name.FileName.TheVariants as file
 use Rattle.mdbox_base.specs.declared.entries.BoxEntry.{BoxEntry}
 use Rattle.mdbox_base.specs.declared.entries.MapEntry.{MapEntry}
 use Rattle.model_meaning.specs.MapMeaning.{MapBox, MapMeaning, map_meaning}
+use Rattle.model_meaning.proofs.SameMeaningLemmas.{means_itself}
+use Rattle.model_rewritten.specs.CarriedStore.{CarriesStore}
 use Rattle.model_store.specs.Settled.{files_of}
 use Rattle.model_store.proofs.SettledLemmas.{has_all_carried, log_along}
 use Rattle.model_store.specs.Stands.{HasRoot, HasMap}
@@ -56,6 +58,17 @@ opens_along store entries logs a b o e =
       },
       refl,
     )
+
+-- The files open again, with the same logs and the same mail.
+pub carries_own : (store : List ℕ) (entries : List MapEntry) (logs : List (List BoxEntry)) (a b : Files) → (o : Opens a store entries logs) → CarryOver o.passed.map_log.generation (map_meaning store entries) a b → CarriesStore store entries logs a b
+carries_own store entries logs a b o e = record {
+  later = entries;
+  later_logs = logs;
+  opens = (opens_along store entries logs a b o e).0;
+  means = means_itself (map_meaning store entries);
+  boxes = refl;
+  mail = record { regions = e.regions; instances = e.instances };
+}
 
 -- What opened opens, under the same generation.
 pub still_opens : (store : List ℕ) (generation : ℕ) (entries : List MapEntry) (logs : List (List BoxEntry)) (m : MapMeaning) (now new : Option History) → m ≡ map_meaning store entries → IfTold now (OpensAt store generation entries logs) → FilesCarry generation m now new

@@ -23,6 +23,7 @@ use Rattle.store_sweep.specs.Swept.{FilesCarry, IsSwept}
 use Rattle.store_sweep.proofs.HeldStoreLemmas.{reads_opened}
 use Rattle.store_open.specs.Opened.{StoreCarries}
 use Rattle.store_open.proofs.CheckedLemmas.{OpensAt}
+use Rattle.store_open.proofs.StillOpensLemmas.{carries_own}
 
 -- ---- at every moment
 
@@ -48,7 +49,7 @@ reads_since generation m old now new same carry = same-between (λ a b. CarryOve
 
 pub swept_since : (generation : ℕ) (m : MapMeaning) (old now new : Option History) → SameState old now → IsSwept generation m now new → IsSwept generation m old new
 swept_since generation m old now new same swept = record {
-  reads = reads_since generation m old now new same swept.reads;
+  reads = same-between _ old now new same swept.reads;
   only = swept.only;
   kept = same-between _ old now new same swept.kept;
   mail = same-between _ old now new same swept.mail;
@@ -57,14 +58,14 @@ swept_since generation m old now new same swept = record {
 }
 
 -- files that stay carry over all that they have
-carry_self : (disk : DiskState) (store : List ℕ) (entries : List MapEntry) (logs : List (List BoxEntry)) → (o : Opens (files_of disk) store entries logs) → CarryOver o.passed.map_log.generation (map_meaning store entries) (files_of disk) (files_of disk)
+pub carry_self : (disk : DiskState) (store : List ℕ) (entries : List MapEntry) (logs : List (List BoxEntry)) → (o : Opens (files_of disk) store entries logs) → CarryOver o.passed.map_log.generation (map_meaning store entries) (files_of disk) (files_of disk)
 carry_self disk store entries logs o =
     let g : ℕ = o.passed.map_log.generation in
     let m : MapMeaning = map_meaning store entries in
     each_name g m (files_of disk) (files_of disk) (reads_opened g m disk (record { store = store; entries = entries; logs = logs; opens = o; generation_is = refl; map_is = refl }))
 
 pub carries-idle : (old new : Option History) → IsIdle old new → StoreCarries old new
-carries-idle old new idle = idle-between _ old new idle (λ disk. carry_self disk)
+carries-idle old new idle = idle-between _ old new idle (λ disk store entries logs o. carries_own store entries logs (files_of disk) (files_of disk) o (carry_self disk store entries logs o))
 
 -- the store that was opened is the one that the files open with
 carry_one : (generation : ℕ) (m : MapMeaning) (store : List ℕ) (entries : List MapEntry) (logs : List (List BoxEntry)) (a b : DiskState) → m ≡ map_meaning store entries → CarryOver generation m (files_of a) (files_of b) → OpensAt store generation entries logs a
@@ -78,7 +79,8 @@ carry_one generation m store entries logs a b is carry at other es ls o =
 
 pub carries-swept : (generation : ℕ) (m : MapMeaning) (store : List ℕ) (entries : List MapEntry) (logs : List (List BoxEntry)) (old now new : Option History) → SameState old now → m ≡ map_meaning store entries → IfTold now (OpensAt store generation entries logs) → FilesCarry generation m now new → StoreCarries old new
 carries-swept generation m store entries logs old now new same is opens carry =
-    between-if (λ a b. CarryOver generation m (files_of a) (files_of b)) _ (OpensAt store generation entries logs) old new (λ a b c at. carry_one generation m store entries logs a b is c at)
+    between-if (λ a b. CarryOver generation m (files_of a) (files_of b)) _ (OpensAt store generation entries logs) old new
+    (λ a b c at other es ls o. carries_own other es ls (files_of a) (files_of b) o (carry_one generation m store entries logs a b is c at other es ls o))
     (reads_since generation m old now new same carry) (same_state-back (OpensAt store generation entries logs) old now same opens)
 
 -- ---- what is shown

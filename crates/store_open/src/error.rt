@@ -1,7 +1,7 @@
 // Errors of making and opening a store.
 ghost use Rattle.std.specs.Prelude.{◌≡◌, Some};
 ghost use Rattle.store_open.specs.Refused.{open_error_text};
-ghost use Rattle.store_open.specs.Causes.{of_check, of_files};
+ghost use Rattle.store_open.specs.Causes.{of_check, of_files, of_step};
 ghost use Rattle.store_open.specs.declared.error.OpenError.TheVariants.{DiskFault as Fault, NoMemory as Memory};
 
 use disk_model::FileName;
@@ -11,6 +11,7 @@ use std::alloc::AllocError;
 use std::error::Error;
 use std::fmt;
 use store_checks::CheckError;
+use store_core::StepError;
 use store_files::FilesError;
 
 /// Why a store was not made or opened.
@@ -97,6 +98,17 @@ impl From<FilesError> for OpenError {
         match error {
             FilesError::DiskFault => OpenError::DiskFault,
             FilesError::NoMemory => OpenError::NoMemory,
+        }
+    }
+}
+
+impl From<StepError> for OpenError {
+    ghost from_gives = { λ given error. error ≡ of_step given };
+
+    fn from(error: StepError) -> OpenError {
+        match error {
+            StepError::Stopped => OpenError::DiskFault,
+            StepError::NoMemory => OpenError::NoMemory,
         }
     }
 }

@@ -1,8 +1,8 @@
 // Opening a store.
-ghost use Rattle.std.specs.Prelude.{◌≡◌, ◌≤◌, false, [], ℕ, length, IfOk, IfErr, IsErrOf};
+ghost use Rattle.std.specs.Prelude.{◌≡◌, ◌≤◌, false, [], ℕ, length, Ok, IfOk, IfErr, IsErrOf};
 ghost use Rattle.disk_model.specs.Disk.{EachImage, IfTold, IsIdle};
 ghost use Rattle.disk_model.specs.declared.name.FileName.TheVariants as file;
-ghost use Rattle.disk_model.specs.FaultCounts.{NoFault, AnyFaultCounted};
+ghost use Rattle.disk_model.specs.FaultCounts.{NoFault, AnyFaultCounted, ChangeFaultCounted};
 ghost use Rattle.model_lists.specs.Lists.{Lists};
 ghost use Rattle.model_store.specs.Listing.{ShowLists};
 ghost use Rattle.model_store.specs.Safe.{Safe};
@@ -15,12 +15,15 @@ ghost use Rattle.store_instances.specs.FoundInstances.{IsFoundInstances};
 ghost use Rattle.box_snapshot.specs.Due.{NoLogDue};
 ghost use Rattle.store_open.specs.Making.{IdleUnless};
 ghost use Rattle.store_open.specs.Opened.{Opening, IsOpenedAs, StoreCarries, KeepsOpenedMail, IsClosedWell, IsOpeningError, IsFaulted, disk_of};
+ghost use Rattle.store_open.specs.Rewritten.{WritesDueLogs};
 ghost use Rattle.store_sweep.specs.Moments.{NoFailedChange, IdleIf};
 ghost use Rattle.store_sweep.specs.Swept.{IsSwept};
 
 use crate::error::{OpenError, OpenRefused};
+use box_snapshot::snapshot_due;
 use disk_model::Disk;
 use model_meaning::meanings_are_sound;
+use model_rewritten::rewritten_stores_are_safe;
 use sis_store::Instances;
 use std::alloc::Global;
 use storage_files::MailFiles;
@@ -100,8 +103,33 @@ pub fn open_store<D: Disk>(alloc: Global, disk: D, lanes: u32) -> Result<Store<D
                 instances,
                 room,
             },
-        ) => Ok(Store::of(alloc, disk, logs, files, instances, room, lanes)),
+        ) => {
+            rewritten_stores_are_safe();
+            write_due_logs(Store::of(alloc, disk, logs, files, instances, room, lanes))
+        }
         Err(error) => Err(OpenRefused { error, disk }),
+    }
+}
+
+/// Writes those logs of a store anew that are due. A change that fails and want of memory refuse the opening.
+fn write_due_logs<D: Disk>(store: Store<D>) -> Result<Store<D>, OpenRefused<D>>
+    requires running { store.stopped ≡ false }
+    requires unmade { store.made ≡ [] }
+    ensures written { WritesDueLogs D.history store result }
+    ensures idle { NoLogDue store → result ≡ Ok store }
+    ensures fault { ChangeFaultCounted (IsFaulted result) (D.faults store.disk) (D.faults (disk_of result)) }
+    ensures unfailed { (IsFaulted result → ⊥) → NoFault (D.faults store.disk) (D.faults (disk_of result)) }
+{
+    let mut store = store;
+    store.facts();
+    let written = snapshot_due(&mut store);
+    store.facts();
+    match written {
+        Ok(()) => Ok(store),
+        Err(error) => Err(OpenRefused {
+            error: OpenError::from(error),
+            disk: store.into_disk(),
+        }),
     }
 }
 

@@ -22,7 +22,7 @@ ghost use Rattle.store_core.specs.Append.{AddsText};
 ghost use Rattle.store_core.specs.Drafts.{AllFitBehind, AreNamedButFor, GivesLists, IsBoxDraft, IsHeldDraft, IsNewer, IsOutOfForce, ListsMessages, boxes_with, listed_with, meanings_with};
 ghost use Rattle.store_core.specs.Dues.{KeepsStored, due_at, leak_at, listed_at};
 ghost use Rattle.store_core.specs.MadeLogs.{has_made_log};
-ghost use Rattle.store_core.specs.Value.{entries_of, entry_room, indexes_of, list_numbered};
+ghost use Rattle.store_core.specs.Value.{log_count_of, entry_room, indexes_of, list_numbered};
 ghost use Rattle.store_core.specs.declared.error.StepError.TheVariants as step_error;
 
 use super::append_map::append_entry;
@@ -203,7 +203,7 @@ impl<D: Disk> Store<D> {
     /// How many entries the log of this mailbox of the map has.
     pub fn box_entries(&self, mailbox: BoxNo) -> u64
         requires { IsTrue (is_some (box_at self.now.map mailbox.0)) }
-        ensures { result ≡ entries_of mailbox.0 self.now.boxes }
+        ensures { result ≡ log_count_of mailbox.0 self.now.boxes }
     {
         match with_number(&self.boxes, mailbox) {
             Some(open_box) => open_box.log.count(),
@@ -227,6 +227,7 @@ impl<D: Disk> Store<D> {
         ensures settled { OnOk result ((lists : Lists) → IsSettledFor lists (D.history self.old.disk) → IsSettledFor lists (D.history self.new.disk)) }
         ensures stored { OnOk result (KeepsStored (D.history self.old.disk) (D.history self.new.disk)) }
         ensures held { OnOk result (IsHeldDraft (D.history self.new.disk) draft.now self.new) }
+        ensures reads { OnOk result ((texts : List (List ℕ)) → Drafts draft.now.log texts (D.history self.old.disk) → Reads draft.now.log texts (D.history self.new.disk)) }
         ensures others { OnOk result (SameButFor draft.now.log.name (D.history self.old.disk) (D.history self.new.disk)) }
         ensures stopped { IsErr result ↔ (self.new.stopped ≡ true) }
         ensures same { self.new ≡ record self.old { disk = self.new.disk; stopped = self.new.stopped } }
@@ -256,6 +257,7 @@ impl<D: Disk> Store<D> {
         ensures taken { OnOk result (self.new.map ≡ map_applied (map_entry.G draft.number draft.generation) self.old.map) }
         ensures indexes { OnOk result (indexes_of self.new.boxes ≡ meanings_with draft.number.0 draft.index.meaning self.old.map.boxes (indexes_of self.old.boxes)) }
         ensures boxes { OnOk result (self.new.boxes ≡ boxes_with draft self.old.boxes) }
+        ensures reads { OnOk result ((texts : List (List ℕ)) → Reads draft.log texts (D.history self.old.disk) → Reads draft.log texts (D.history self.new.disk)) }
         ensures leak { OnOk result ((uid : ℕ) → leak_at uid self.new ≡ leak_at uid self.old + listed_at uid self.old - listed_with draft uid self.old) }
         ensures means { MeansSame self.old.map self.new.map }
         ensures same_indexes { list_numbered self.old draft.number.0 ≡ Some draft.index.meaning → indexes_of self.new.boxes ≡ indexes_of self.old.boxes }

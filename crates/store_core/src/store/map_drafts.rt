@@ -190,6 +190,7 @@ impl<D: Disk> Store<D> {
         ensures settled { OnOk result ((lists : Lists) → IsSettledFor lists (D.history self.old.disk) → IsSettledFor lists (D.history self.new.disk)) }
         ensures stored { OnOk result (KeepsStored (D.history self.old.disk) (D.history self.new.disk)) }
         ensures held { OnOk result (IsHeldMapDraft (D.history self.new.disk) draft.now self.new) }
+        ensures reads { OnOk result ((texts : List (List ℕ)) → Drafts draft.now.log texts (D.history self.old.disk) → Reads draft.now.log texts (D.history self.new.disk)) }
         ensures others { OnOk result (SameButFor draft.now.log.name (D.history self.old.disk) (D.history self.new.disk)) }
         ensures stopped { IsErr result ↔ (self.new.stopped ≡ true) }
         ensures same { self.new ≡ record self.old { disk = self.new.disk; stopped = self.new.stopped } }
@@ -216,6 +217,7 @@ impl<D: Disk> Store<D> {
         ensures settled { OnOk result ((lists : Lists) → IsSettledFor lists (D.history self.old.disk) → IsSettledFor lists (D.history self.new.disk)) }
         ensures stored { OnOk result (KeepsStored (D.history self.old.disk) (D.history self.new.disk)) }
         ensures log { OnOk result (self.new.map_log ≡ draft.log) }
+        ensures reads { OnOk result ((texts : List (List ℕ)) → Reads draft.log texts (D.history self.old.disk) → Reads draft.log texts (D.history self.new.disk)) }
         ensures others { OnOk result (SameButFor self.old.root_log.name (D.history self.old.disk) (D.history self.new.disk)) }
         ensures stopped { IsErr result ↔ (self.new.stopped ≡ true) }
         ensures same { self.new ≡ record self.old { disk = self.new.disk; root_log = self.new.root_log; map_log = self.new.map_log; stopped = self.new.stopped } }

@@ -113,7 +113,7 @@ returns-clause-store g c = λ lanes some few.
     let opens = opens_with c.in_ok-checked.checked.id.0 c.in_ok-checked.checked.generation k.1 k.2 c.in_ok-checked.checked.map.meaning _ k.3.map_is (opens_at c.in_ok-checked.checked k.0 k.1 k.2 _ _ idle s) in
     let sound : IsSoundMap c.in_ok-checked.checked.map.meaning = rw k.3.map_is (c.meanings_are_sound.ensures.map c.in_ok-checked.checked.id.0 k.1 k.3.good.map_entries.1 k.3.good.map_entries.0) in
     let has = has_files c.in_ok-checked.checked.generation c.in_ok-checked.checked.map.meaning c.in_ok-files.files _ _ sound c.swept_files_are_known.ensures opens (found_on c.in_ok-checked.checked.map.meaning _ _ c.in_ok-files.files c.in_ok-files.ensures.idle c.in_ok-files.ensures.found) e.swept in
-    opened_store c.args.alloc c.sweep.new.disk c.in_ok-checked.checked k.0 k.1 k.2 c.in_ok-logs.logs c.in_ok-files.files c.in_ok-instances.instances lanes _ _ _ c.counts_cover_listings.ensures.nothing_due has idle s e.swept.reads (ap (λ i. i.meaning) e.same.1) e.root_log e.map_log e.box_logs e.same.2 some few
+    opened_store c.args.alloc c.sweep.new.disk c.in_ok-checked.checked k.0 k.1 k.2 c.in_ok-logs.logs c.in_ok-files.files c.in_ok-instances.instances lanes _ _ _ c.counts_cover_listings.ensures.nothing_due has idle s (e.carried (λ fault. absurd (false≢true fault))) (ap (λ i. i.meaning) e.same.1) e.root_log e.map_log e.box_logs e.same.2 some few
 
 pub returns-clause-known : goal.returns-clause-known
 returns-clause-known g c = λ lanes some few.
@@ -124,7 +124,7 @@ returns-clause-known g c = λ lanes some few.
     let opens = opens_with c.in_ok-checked.checked.id.0 c.in_ok-checked.checked.generation k.1 k.2 c.in_ok-checked.checked.map.meaning _ k.3.map_is (opens_at c.in_ok-checked.checked k.0 k.1 k.2 _ _ idle s) in
     let sound : IsSoundMap c.in_ok-checked.checked.map.meaning = rw k.3.map_is (c.meanings_are_sound.ensures.map c.in_ok-checked.checked.id.0 k.1 k.3.good.map_entries.1 k.3.good.map_entries.0) in
     let has = has_files c.in_ok-checked.checked.generation c.in_ok-checked.checked.map.meaning c.in_ok-files.files _ _ sound c.swept_files_are_known.ensures opens (found_on c.in_ok-checked.checked.map.meaning _ _ c.in_ok-files.files c.in_ok-files.ensures.idle c.in_ok-files.ensures.found) e.swept in
-    instances_opened _ _ (opened_store c.args.alloc c.sweep.new.disk c.in_ok-checked.checked k.0 k.1 k.2 c.in_ok-logs.logs c.in_ok-files.files c.in_ok-instances.instances lanes _ _ _ c.counts_cover_listings.ensures.nothing_due has idle s e.swept.reads (ap (λ i. i.meaning) e.same.1) e.root_log e.map_log e.box_logs e.same.2 some few) refl (found_as c.in_ok-checked.checked.map.meaning c.in_ok-logs.logs.map.meaning c.in_ok-instances.instances (ap (λ i. i.meaning) e.same.1) c.in_ok-instances.ensures) refl (only_found c.in_ok-checked.checked.generation c.in_ok-checked.checked.map.meaning c.in_ok-instances.instances _ c.in_ok-instances.ensures e.swept.only)
+    instances_opened _ _ (opened_store c.args.alloc c.sweep.new.disk c.in_ok-checked.checked k.0 k.1 k.2 c.in_ok-logs.logs c.in_ok-files.files c.in_ok-instances.instances lanes _ _ _ c.counts_cover_listings.ensures.nothing_due has idle s (e.carried (λ fault. absurd (false≢true fault))) (ap (λ i. i.meaning) e.same.1) e.root_log e.map_log e.box_logs e.same.2 some few) refl (found_as c.in_ok-checked.checked.map.meaning c.in_ok-logs.logs.map.meaning c.in_ok-instances.instances (ap (λ i. i.meaning) e.same.1) c.in_ok-instances.ensures) refl (only_found c.in_ok-checked.checked.generation c.in_ok-checked.checked.map.meaning c.in_ok-instances.instances _ c.in_ok-instances.ensures e.swept.only)
 
 pub returns-clause-instances : goal.returns-clause-instances
 returns-clause-instances g c = found_as c.in_ok-checked.checked.map.meaning c.in_ok-logs.logs.map.meaning c.in_ok-instances.instances (ap (λ i. i.meaning) c.in_ok-logs.ensures.same.1) c.in_ok-instances.ensures
@@ -211,7 +211,7 @@ returns-clause-carried g c = λ none.
     let k = c.in_ok-checked.ensures.checked in
     let s = checked_since c.in_ok-checked.checked k.0 k.1 k.2 _ _ _ c.in_ok-files.ensures.idle k.3 in
     let idle = idle-then _ _ _ c.in_ok-checked.ensures.idle c.in_ok-files.ensures.idle in
-    carries-swept c.in_ok-checked.checked.generation c.in_ok-checked.checked.map.meaning c.in_ok-checked.checked.id.0 k.1 k.2 _ _ _ idle.same k.3.map_is (opens_at c.in_ok-checked.checked k.0 k.1 k.2 _ _ idle s) c.in_ok-logs.ensures.swept.reads
+    carries-swept c.in_ok-checked.checked.generation c.in_ok-checked.checked.map.meaning c.in_ok-checked.checked.id.0 k.1 k.2 _ _ _ idle.same k.3.map_is (opens_at c.in_ok-checked.checked k.0 k.1 k.2 _ _ idle s) (c.in_ok-logs.ensures.carried (λ fault. absurd (false≢true fault)))
 
 -- files that don't open
 

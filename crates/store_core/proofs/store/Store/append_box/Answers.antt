@@ -3,11 +3,12 @@ use Rattle.store_core.proofs.Common.{kept_begins}
 use Rattle.std.proofs.Common.{Err}
 use Rattle.model_appends.specs.Appending.{lists_by}
 use Rattle.store_core.specs.Append.{Brings}
+use Rattle.store_core.specs.Value.{log_count_of}
 use Rattle.store_core.proofs.BoxAppendLemmas.{store_there, stopped_there}
 use Rattle.store_core.proofs.BoxCrashLemmas.{leaves_there, settled_there, stored_there, leaves_none}
 use Rattle.store_core.proofs.KeptMailLemmas.{mail_boxed}
 use Rattle.store_core.proofs.PickingLemmas.{indexes_kept}
-use Rattle.store_core.proofs.PlacingLemmas.{placed, place_below, must_be, read_there, fits_there, room_there, room_stays, taken_there, size_there, due_there, due_room, leak_there, how_is, dues_are_by}
+use Rattle.store_core.proofs.PlacingLemmas.{placed, place_below, must_be, read_there, fits_there, room_there, room_stays, taken_there, size_there, counted_there, due_there, due_room, leak_there, how_is, dues_are_by}
 use Rattle.store_core.proofs.MadeLogLemmas.{made_stopped}
 use Rattle.store_core.proofs.MadePlaceLemmas.{made_placed}
 use Rattle.store_core.proofs.KnownInstanceLemmas.{instances_boxed, instances_stopped}
@@ -83,6 +84,11 @@ pub returns-in-Ok-clause-due : goal.returns-in-Ok-clause-due
 returns-in-Ok-clause-due g c =
     subst (λ v. (m : BoxMeaning) (uid : ℕ) → list_numbered v c.args.mailbox.0 ≡ Some m → number_beside uid c.self.inside.map.meaning.records c.change_due.new.dues.items ≡ due_by_box m c.args.entry.now (λ other. due_at other v) uid) c.self.view_is
     (λ m uid at. ap (number_beside uid c.self.inside.map.meaning.records) (dues_are_by c.self.inside.map.meaning.records c.self.inside.dues.items c.change_due.new.dues.items c.self.inside.boxes.items c.in-Some.place c.index.result.now c.index_mut.result.now c.args.entry.now c.due_change-how.result c.change_due.ensures c.due_change-how.ensures (place_below c.self.inside.boxes.items c.deref.result.now c.in-Some.place c.args.mailbox.0 c.deref.ensures.value c.in-Some.ensures.some) c.index.ensures c.index_mut.ensures.value) ∙ due_there _ _ c.in-Some.place c.index_mut.result.now c.args.mailbox.0 c.args.entry.now m uid (placed _ _ c.args.self.now c.deref.result.now c.in-Some.place c.index_mut.result.now c.args.mailbox.0 c.args.entry.now c.self.invariant.1 c.self.view_is c.deref.ensures.value c.requires.running c.requires.range c.requires.fits c.requires.held c.requires.record c.in-Some.ensures.some c.index_mut.ensures.value) at)
+
+pub returns-in-Ok-clause-counted : goal.returns-in-Ok-clause-counted
+returns-in-Ok-clause-counted g c =
+    subst (λ v. log_count_of c.args.mailbox.0 (slice_set c.self.inside.boxes.items c.in-Some.place c.append_in.new.open_box) ≡ log_count_of c.args.mailbox.0 v.boxes + 1) c.self.view_is
+    (counted_there _ _ c.in-Some.place c.index_mut.result.now c.append_in.new.open_box c.args.mailbox.0 c.args.entry.now (placed _ _ c.args.self.now c.deref.result.now c.in-Some.place c.index_mut.result.now c.args.mailbox.0 c.args.entry.now c.self.invariant.1 c.self.view_is c.deref.ensures.value c.requires.running c.requires.range c.requires.fits c.requires.held c.requires.record c.in-Some.ensures.some c.index_mut.ensures.value) c.in-Ok.ensures.same.number c.in-Ok.ensures.counted)
 
 pub returns-in-Ok-clause-leak : goal.returns-in-Ok-clause-leak
 returns-in-Ok-clause-leak g c =

@@ -3,6 +3,7 @@ use Rattle.disk_model.specs.declared.name.FileName.TheVariants as file
 use Rattle.store_core.specs.Drafts.{IsNewer}
 use Rattle.store_core.proofs.BoxCrashLemmas.{leaves_none}
 use Rattle.store_core.proofs.DraftCallLemmas.{free_newer, made_draft_named, new_draft, newer_as}
+use Rattle.store_core.proofs.DraftLemmas.{drafts_nothing}
 use Rattle.store_core.proofs.KnownInstanceLemmas.{instances_logged}
 use Rattle.store_core.proofs.MadeCallLemmas.{room_same}
 use Rattle.store_core.proofs.MailStayLemmas.{box_log_kept}
@@ -77,3 +78,6 @@ pub returns-in-Ok-clause-draft : goal.returns-in-Ok-clause-draft
 returns-in-Ok-clause-draft g c =
     let newer = subst (λ v. IsNewer c.args.mailbox.0 c.args.generation v) (sym c.self.view_is) c.requires.newer in
     new_draft _ _ _ c.in-Ok.log c.self.inside.id.0 _ (newer_as _ _ c.args.mailbox.0 c.args.generation refl refl refl newer) c.self.invariant.0 c.in-Ok.ensures.log c.take_room.ensures (ap (λ i. i.meaning) c.in_ok-index.ensures) c.in-Ok.ensures.made
+
+pub returns-in-Ok-clause-nothing : goal.returns-in-Ok-clause-nothing
+returns-in-Ok-clause-nothing g c = drafts_nothing c.in-Ok.log _ _ _ c.take_room.ensures c.in-Ok.ensures.made

@@ -1,6 +1,7 @@
 use Rattle.store_core.proofs.Common.{◌≡◌, ◌+◌, refl, ◌∙◌, ap, subst, Lists, IsSettledFor, Leaves, KeepsStored, MailIsKept, kept_begins}
 use Rattle.disk_model.specs.declared.name.FileName.TheVariants as file
 use Rattle.store_core.proofs.BoxCrashLemmas.{leaves_none}
+use Rattle.store_core.proofs.DraftLemmas.{drafts_nothing}
 use Rattle.store_core.proofs.KnownInstanceLemmas.{instances_named, instances_on, map_is_none}
 use Rattle.store_core.proofs.MadeCallLemmas.{room_same}
 use Rattle.store_core.proofs.MadeLogLemmas.{made_named}
@@ -93,3 +94,6 @@ returns-in-Ok-clause-draft g c =
     let number = next_number n (n + 1) (c.requires.more n c.map_generation-generation.ensures) refl in
     let other = next_map _ n (n + 1) (ap (λ v. v.map_log.name) c.self.view_is ∙ c.map_generation-generation.ensures) refl in
     new_map_draft _ _ _ c.in-Ok.log c.self.inside.id.0 _ number other c.self.invariant.0 c.in-Ok.ensures.log c.take_room.ensures (ap (λ i. i.meaning) c.in_ok-map.ensures) c.in-Ok.ensures.made
+
+pub returns-in-Ok-clause-nothing : goal.returns-in-Ok-clause-nothing
+returns-in-Ok-clause-nothing g c = drafts_nothing c.in-Ok.log _ _ _ c.take_room.ensures c.in-Ok.ensures.made

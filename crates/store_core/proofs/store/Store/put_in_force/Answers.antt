@@ -1,13 +1,13 @@
-use Rattle.store_core.proofs.Common.{◌≡◌, ◌==◌, Some, find, slice_set, option_map, refl, sym, ◌∙◌, ap, subst, OpenBox, MapMeaning, IsUnnamed, KeepsStored, MailIsKept, indexes_of}
+use Rattle.store_core.proofs.Common.{slice_set, refl, sym, ◌∙◌, ap, subst, MapMeaning, IsUnnamed, KeepsStored, MailIsKept, indexes_of}
 use Rattle.mdbox_base.specs.declared.entries.MapEntry.TheVariants as entry
 use Rattle.model_meaning.specs.SameMeaning.{MeansSame}
-use Rattle.store_core.specs.Drafts.{meanings_with}
+use Rattle.store_core.specs.Drafts.{boxes_with, meanings_with}
 use Rattle.store_core.proofs.ChangeCallLemmas.{made_after_change}
 use Rattle.store_core.proofs.DraftSwitchLemmas.{leak_then}
 use Rattle.store_core.proofs.KnownInstanceLemmas.{instances_changed}
 use Rattle.store_core.proofs.MailStayLemmas.{map_log_kept}
 use Rattle.store_core.proofs.NamingLemmas.{stored_named}
-use Rattle.store_core.proofs.PutInForceLemmas.{can_switch, draft_of, fits_now, indexes_seen, indexes_stay, indexes_then, leaves_seen, leaves_then, log_then, must_be_there, room_then, same_means, settled_seen, settled_then, store_put}
+use Rattle.store_core.proofs.PutInForceLemmas.{boxes_then, can_switch, draft_of, fits_now, indexes_then, leaves_seen, leaves_then, must_be_there, room_then, same_means, settled_seen, settled_then, store_put, indexes_seen, indexes_stay}
 use Rattle.store_core.proofs.ReplacedLogLemmas.{unnamed_then}
 use Rattle.store_core.proofs.store.Store.put_in_force.Goals as goal
 
@@ -70,11 +70,10 @@ returns-in-Ok-clause-indexes g c =
     ∙ ap (λ d. meanings_with d.number.0 d.index.meaning c.self.inside.map.meaning.boxes (indexes_of c.self.inside.boxes.items)) c.draft.view_is
     ∙ ap (λ v. meanings_with c.args.draft.number.0 c.args.draft.index.meaning v.map.boxes (indexes_of v.boxes)) c.self.view_is
 
-pub returns-in-Ok-clause-log : goal.returns-in-Ok-clause-log
-returns-in-Ok-clause-log g c =
+pub returns-in-Ok-clause-boxes : goal.returns-in-Ok-clause-boxes
+returns-in-Ok-clause-boxes g c =
     let can = can_switch g.D.Disk.history _ c.args.self.now c.draft.inside.open_box c.draft.inside.generation c.args.draft c.deref.result.now c.in-Some.place c.self.invariant.1 c.self.view_is c.draft.view_is c.requires.running c.requires.held c.requires.named c.requires.counts c.deref.ensures.value c.in-Some.ensures.some in
-    subst (λ d. option_map (λ (o : OpenBox). o.log) (find (λ (o : OpenBox). o.number.0 == d.number.0) (slice_set c.self.inside.boxes.items c.in-Some.place c.draft.inside.open_box)) ≡ Some d.log) c.draft.view_is
-    (log_then _ _ (draft_of c.draft.inside.open_box c.draft.inside.generation) c.draft.inside.open_box c.in-Some.place can)
+    boxes_then _ _ (draft_of c.draft.inside.open_box c.draft.inside.generation) c.draft.inside.open_box c.in-Some.place can ∙ ap (λ d. boxes_with d c.self.inside.boxes.items) c.draft.view_is ∙ ap (λ v. boxes_with c.args.draft v.boxes) c.self.view_is
 
 pub returns-in-Ok-clause-means : goal.returns-in-Ok-clause-means
 returns-in-Ok-clause-means g c =

@@ -3,7 +3,7 @@ use Rattle.disk_model.specs.declared.name.FileName.TheVariants as file
 use Rattle.model_kept.proofs.KeptLemmas.{kept_then}
 use Rattle.model_rewritten.specs.Switched.{list_switched}
 use Rattle.store_core.specs.Drafts.{listed_with}
-use Rattle.store_core.proofs.DraftSwitchLemmas.{gives_messages, gives_same, gone_as, leaves_first, leaves_last, leaves_only, names_synced, not_ok, old_name, old_out, others_as, stored_on}
+use Rattle.store_core.proofs.DraftSwitchLemmas.{draft_apart, gives_messages, gives_same, gone_as, leaves_first, leaves_last, leaves_only, not_ok, old_name, old_out, others_as, reads_on, stored_on, names_synced}
 use Rattle.store_core.proofs.store.Store.switch_box.Goals as goal
 
 pub returns-in_err-settle_draft-clause-any_moment : goal.returns-in_err-settle_draft-clause-any_moment
@@ -81,6 +81,12 @@ pub returns-clause-leak : goal.returns-clause-leak
 returns-clause-leak g c = λ uid.
     ap (λ (v : StoreValue _). leak_at uid v) c.drop_log.ensures.same ∙ c.in_ok-put_in_force.ensures.leak uid
     ∙ ap (λ (v : StoreValue _). leak_at uid v + listed_at uid v - listed_with c.args.draft uid v) c.settle_draft.ensures.same
+
+pub returns-clause-reads : goal.returns-clause-reads
+returns-clause-reads g c = λ texts drafted.
+    reads_on (file.Box c.draft.inside.open_box.number.0 c.in-Some.generation) c.args.draft.log texts _ _ c.in_ok-drop_log.ensures.others
+    (draft_apart _ c.args.self.now c.args.draft c.draft.inside.open_box.number c.in-Some.generation c.requires.draft (ap (λ d. d.number) c.draft.view_is) (sym c.in-Some.is ∙ c.generation_of.ensures))
+    (c.in_ok-put_in_force.ensures.reads texts (c.in_ok-settle_draft.ensures.reads texts drafted))
 
 pub returns-clause-gone : goal.returns-clause-gone
 returns-clause-gone g c = λ box found.

@@ -1,0 +1,163 @@
+-- A store whose logs were written anew, by what its map and its logs mean.
+use Rattle.std.proofs.Common.{◌≡◌, ℕ, false, List, [], ◌∷◌, length, map, Option, Some, None, All, sym, ◌∙◌, ap, subst}
+use Rattle.std.specs.List.{AllZip}
+use Rattle.std.proofs.lemmas.List.{length-map}
+use Rattle.std.proofs.lemmas.List.Elements.{All-nil, All-cons}
+use Rattle.box_snapshot.specs.Due.{NoLogDue, is_box_due, is_log_due, needs_of_box, needs_of_map}
+use Rattle.box_snapshot.specs.Rewrites.{SyncsMailNames}
+use Rattle.disk_model.specs.Disk.{History, Between, IfTold}
+use Rattle.mdbox_base.specs.declared.entries.BoxEntry.{BoxEntry}
+use Rattle.mdbox_base.specs.declared.entries.Highest.{Highest}
+use Rattle.mdbox_base.specs.declared.entries.MapEntry.{MapEntry}
+use Rattle.model_lists.specs.Lists.{Lists}
+use Rattle.model_logs.specs.Entries.{box_text, map_text}
+use Rattle.model_logs.specs.declared.log_head.LogHead.{LogHead}
+use Rattle.model_meaning.proofs.SameMeaningLemmas.{means_along}
+use Rattle.model_meaning.specs.BoxMeaning.{BoxMeaning, box_meaning}
+use Rattle.model_meaning.specs.MapMeaning.{MapBox, MapMeaning, MapRecord, map_meaning}
+use Rattle.model_meaning.specs.SameMeaning.{MeansSame}
+use Rattle.model_rewritten.specs.CarriedStore.{CarriesStore}
+use Rattle.model_store.proofs.OpeningLemmas.{one_store}
+use Rattle.model_store.proofs.StandsLemmas.{root_same}
+use Rattle.model_store.specs.GoodLogs.{AreGoodLogs}
+use Rattle.model_store.specs.Listing.{ShowLists}
+use Rattle.model_store.specs.Opening.{Opens}
+use Rattle.model_store.specs.Settled.{files_of}
+use Rattle.sis_store.specs.Instances.{InstancesValue}
+use Rattle.storage_files.specs.Files.{FilesValue}
+use Rattle.store_core.specs.Running.{AreBoxLogs, IsRunning, IsStore, ReadBoxLogs}
+use Rattle.store_core.specs.Value.{StoreValue, indexes_of}
+use Rattle.store_core.specs.declared.store.OpenBox.{OpenBox}
+use Rattle.store_files.specs.Found.{IsFoundFiles}
+use Rattle.store_instances.specs.FoundInstances.{IsFoundInstances}
+use Rattle.store_open.proofs.SweptStoreLemmas.{carry_self}
+use Rattle.store_open.proofs.SyncedMailLemmas.{mail_on}
+use Rattle.store_open.specs.Opened.{IsBoxUndue, IsClosedWell, IsOpenedAs, StoreCarries}
+
+-- ---- maps that mean the same
+
+made_map : List ℕ → List MapRecord → List MapBox → List ℕ → Highest → MapMeaning
+made_map store records boxes sealed highest = record { store = store; records = records; boxes = boxes; sealed = sealed; highest = highest }
+
+-- they differ in their mailboxes at most
+pub with_boxes : (m n : MapMeaning) → MeansSame m n → n ≡ record m { boxes = n.boxes }
+unfolding made_map
+with_boxes m n same =
+    let s = same.store in
+    let r = same.records in
+    let k = same.sealed in
+    let h = same.highest in
+    let e : made_map n.store n.records n.boxes n.sealed n.highest ≡ made_map m.store m.records n.boxes m.sealed m.highest = cc in
+    e
+
+pub opened_same : (old : Option History) (m n : MapMeaning) (before now : List BoxMeaning) → MeansSame m n → now ≡ before → IsOpenedAs old m before → IsOpenedAs old n now
+opened_same old m n before now same are o = record {
+  entries = o.entries;
+  logs = o.logs;
+  good = subst (λ (s : List ℕ). AreGoodLogs s o.entries o.logs) (sym same.store) o.good;
+  opens = subst (λ (s : List ℕ). IfTold old (λ disk. Opens (files_of disk) s o.entries o.logs)) (sym same.store) o.opens;
+  means = subst (λ (s : List ℕ). MeansSame (map_meaning s o.entries) n) (sym same.store) (means_along (map_meaning m.store o.entries) m n o.means same);
+  meanings_are = are ∙ o.meanings_are;
+}
+
+found_files : (m : MapMeaning) (boxes : List MapBox) (old : Option History) (files : FilesValue) → IsFoundFiles m old files → IsFoundFiles (record m { boxes = boxes }) old files
+found_files m boxes old files f = record {
+  states = f.states;
+  found = record {
+    rising = f.found.rising;
+    ends = λ number. record { unsealed = (f.found.ends number).unsealed; sealed = (f.found.ends number).sealed };
+    marks = f.found.marks;
+  };
+  is = f.is;
+}
+
+pub files_same : (m n : MapMeaning) (old : Option History) (files : FilesValue) → MeansSame m n → IsFoundFiles m old files → IsFoundFiles n old files
+files_same m n old files same f = subst (λ (k : MapMeaning). IsFoundFiles k old files) (sym (with_boxes m n same)) (found_files m n.boxes old files f)
+
+found_instances : (m : MapMeaning) (boxes : List MapBox) (instances : InstancesValue) → IsFoundInstances m instances → IsFoundInstances (record m { boxes = boxes }) instances
+found_instances m boxes instances f = record { store = f.store; highest = f.highest; only = f.only; named = f.named }
+
+pub instances_same : (m n : MapMeaning) (instances : InstancesValue) → MeansSame m n → IsFoundInstances m instances → IsFoundInstances n instances
+instances_same m n instances same f = subst (λ (k : MapMeaning). IsFoundInstances k instances) (sym (with_boxes m n same)) (found_instances m n.boxes instances f)
+
+-- ---- what is shown
+
+shows_boxes : (boxes others : List MapBox) (meanings : List BoxMeaning) (lists : Lists) → map (λ box. box.number) others ≡ map (λ box. box.number) boxes → map (λ box. box.name) others ≡ map (λ box. box.name) boxes
+    → ShowLists boxes meanings lists → ShowLists others meanings lists
+shows_boxes [] [] meanings lists numbers names h = h
+shows_boxes [] (o ∷ os) meanings lists numbers names h = absurd (let e : o.number ∷ map (λ (x : MapBox). x.number) os ≡ [] = numbers in cc)
+shows_boxes (b ∷ bs) [] meanings lists numbers names h = absurd (let e : [] ≡ b.number ∷ map (λ (x : MapBox). x.number) bs = numbers in cc)
+shows_boxes (b ∷ bs) (o ∷ os) [] lists numbers names h = absurd h
+shows_boxes (b ∷ bs) (o ∷ os) (m ∷ ms) [] numbers names h = absurd h
+shows_boxes (b ∷ bs) (o ∷ os) (m ∷ ms) (l ∷ ls) numbers names h =
+    let e : o.number ∷ map (λ (x : MapBox). x.number) os ≡ b.number ∷ map (λ (x : MapBox). x.number) bs = numbers in
+    let f : o.name ∷ map (λ (x : MapBox). x.name) os ≡ b.name ∷ map (λ (x : MapBox). x.name) bs = names in
+    let number : o.number ≡ b.number = cc e in
+    let later : map (λ (x : MapBox). x.number) os ≡ map (λ (x : MapBox). x.number) bs = cc e in
+    let name : o.name ≡ b.name = cc f in
+    let rest : map (λ (x : MapBox). x.name) os ≡ map (λ (x : MapBox). x.name) bs = cc f in
+    (record { number = h.0.number ∙ sym number; name = h.0.name ∙ sym name; next = h.0.next; rows = h.0.rows }, shows_boxes bs os ms ls later rest h.1)
+
+pub shows_same : (m n : MapMeaning) (before now : List BoxMeaning) (lists : Lists) → MeansSame m n → now ≡ before → ShowLists m.boxes before lists → ShowLists n.boxes now lists
+shows_same m n before now lists same are h = subst (λ (ms : List BoxMeaning). ShowLists n.boxes ms lists) (sym are) (shows_boxes m.boxes n.boxes before lists same.numbers same.names h)
+
+-- ---- what the store carries
+
+carried_as : {D : Type 0} → (a b : History) (old new : StoreValue D) → (s : IsStore (Some a) old) → (t : IsStore (Some b) new) → (r : IsRunning (Some a) s.generation old s.entries s.logs) → IsRunning (Some b) t.generation new t.entries t.logs
+    → MeansSame old.map new.map → indexes_of new.boxes ≡ indexes_of old.boxes → SyncsMailNames a.now b.now → CarriesStore old.map.store s.entries s.logs (files_of a.now) (files_of b.now)
+carried_as a b old new s t r q same are mail =
+    let id : List ℕ = old.map.store in
+    let before : MapMeaning = map_meaning id s.entries in
+    let own = carry_self a.now id s.entries s.logs r.opens in
+    record {
+      later = t.entries;
+      later_logs = t.logs;
+      opens = subst (λ (i : List ℕ). Opens (files_of b.now) i t.entries t.logs) same.store q.opens;
+      means = subst (λ (i : List ℕ). MeansSame before (map_meaning i t.entries)) same.store (subst (λ (m : MapMeaning). MeansSame before m) t.map_is (subst (λ (m : MapMeaning). MeansSame m new.map) s.map_is same));
+      boxes = sym t.boxes_are ∙ are ∙ s.boxes_are;
+      mail = mail_on before (files_of a.now) a.now b.now mail (record { regions = own.regions; instances = own.instances });
+    }
+
+pub carries_written : {D : Type 0} → (a b : Option History) (old new : StoreValue D) → IsStore a old → IsStore b new → old.stopped ≡ false → new.stopped ≡ false → MeansSame old.map new.map → indexes_of new.boxes ≡ indexes_of old.boxes
+    → Between SyncsMailNames a b → StoreCarries a b
+carries_written None b old new s t runs goes same are mail = mail
+carries_written (Some a) None old new s t runs goes same are mail = mail
+carries_written (Some a) (Some b) old new s t runs goes same are mail = λ store entries logs o.
+    let c = carried_as a b old new s t (s.running runs) (t.running goes) same are mail in
+    let e = one_store (files_of a.now) old.map.store store s.entries entries s.logs logs (s.running runs).opens o in
+    subst (λ (ls : List (List BoxEntry)). CarriesStore store entries ls (files_of a.now) (files_of b.now)) e.2
+    (subst (λ (es : List MapEntry). CarriesStore store es s.logs (files_of a.now) (files_of b.now)) e.1
+    (subst (λ (i : List ℕ). CarriesStore i s.entries s.logs (files_of a.now) (files_of b.now)) e.0 c))
+
+-- ---- a store that was closed well has no log that is due
+
+due_as : (count number needs want generation other : ℕ) → count ≡ number → needs ≡ want → generation ≡ other → is_log_due count needs generation ≡ is_log_due number want other
+due_as count number needs want generation other a b c = cc (a, b, c)
+
+undue_boxes : (store : List ℕ) (mailboxes : List MapBox) (boxes : List OpenBox) (logs : List (List BoxEntry)) (now : History) → AreBoxLogs store mailboxes boxes → ReadBoxLogs (Some now) boxes logs → indexes_of boxes ≡ map box_meaning logs
+    → AllZip IsBoxUndue mailboxes logs → All (λ b. is_box_due b ≡ false) boxes
+undue_boxes store [] [] logs now named reads means undue = All-nil (λ (b : OpenBox). is_box_due b ≡ false)
+undue_boxes store [] (b ∷ bs) logs now named reads means undue = absurd named
+undue_boxes store (x ∷ xs) [] logs now named reads means undue = absurd named
+undue_boxes store (x ∷ xs) (b ∷ bs) [] now named reads means undue = absurd reads
+undue_boxes store (x ∷ xs) (b ∷ bs) (l ∷ ls) now named reads means undue =
+    let e : b.index.meaning ∷ indexes_of bs ≡ box_meaning l ∷ map box_meaning ls = means in
+    let own : b.index.meaning ≡ box_meaning l = cc e in
+    let later : indexes_of bs ≡ map box_meaning ls = cc e in
+    let count : b.log.count ≡ length l = reads.0.count ∙ length-map l box_text in
+    let generation : b.log.head.generation ≡ x.generation = ap (λ (h : LogHead). h.generation) named.2 in
+    All-cons (λ (c : OpenBox). is_box_due c ≡ false) b bs (due_as _ _ _ _ _ _ count (ap needs_of_box own) generation ∙ undue.0) (undue_boxes store xs bs ls now named.3 reads.1 later undue.1)
+
+pub undue_closed : {D : Type 0} → (now : History) (store : StoreValue D) → IsStore (Some now) store → store.stopped ≡ false → IsClosedWell now.now → NoLogDue store
+undue_closed now store s runs p =
+    let r = s.running runs in
+    let e = one_store (files_of now.now) p.store store.map.store p.entries s.entries p.logs s.logs p.opens r.opens in
+    let g = root_same (files_of now.now) p.store store.map.store p.opens.passed.map_log.generation s.generation p.opens.passed.map_log.root r.root in
+    let means : map_meaning p.store p.entries ≡ store.map = cc (e.0, e.1, s.map_is) in
+    let count : store.map_log.count ≡ length p.entries = r.map_log_reads.count ∙ length-map s.entries map_text ∙ ap length (sym e.1) in
+    let generation : store.map_log.head.generation ≡ p.opens.passed.map_log.generation = ap (λ (h : LogHead). h.generation) s.map_head ∙ sym g.1 in
+    record {
+      boxes = undue_boxes store.map.store store.map.boxes store.boxes s.logs now s.box_logs r.box_logs_read s.boxes_are
+          (subst (λ (m : MapMeaning). AllZip IsBoxUndue m.boxes s.logs) means (subst (λ (ls : List (List BoxEntry)). AllZip IsBoxUndue (map_meaning p.store p.entries).boxes ls) e.2 p.undue_boxes));
+      map_log = due_as _ _ _ _ _ _ count (ap needs_of_map (sym means)) generation ∙ p.undue_map;
+    }
