@@ -3,13 +3,8 @@ use Rattle.std.proofs.Common.{◌≡◌, ◌⊎◌, inl, inr, ℕ, Bool, true, f
 use Rattle.std.specs.Prelude.{◌↔◌, IfErr, IfOk, IsErrOf}
 use Rattle.std.proofs.lemmas.Bool.{cases_Bool}
 use Rattle.box_snapshot.specs.Due.{NoLogDue}
-<<<<<<< HEAD
 use Rattle.box_snapshot.specs.Rewrites.{AreNamesSynced, LeavesNoOldLogs, SyncsMailNames}
-use Rattle.disk_model.proofs.BetweenLemmas.{between-map, between-then}
-=======
-use Rattle.box_snapshot.specs.Rewrites.{AreNamesSynced, LeavesNoOldLogs, SyncsMail}
 use Rattle.disk_model.proofs.BetweenLemmas.{between-back, between-if, between-map, between-then}
->>>>>>> origin/undue
 use Rattle.disk_model.proofs.MomentLemmas.{each_image-then, if_told-both}
 use Rattle.disk_model.specs.Disk.{Between, DiskState, EachImage, Faults, Files, History, IfTold}
 use Rattle.disk_model.specs.FaultCounts.{NoFault, ChangeFaultCounted}
@@ -20,7 +15,6 @@ use Rattle.model_kept.proofs.KeptLemmas.{ReadsImage, kept_then}
 use Rattle.model_kept.specs.Kept.{MailIsKept}
 use Rattle.model_lists.specs.Lists.{Lists}
 use Rattle.model_logs.specs.declared.log_head.LogHead.{LogHead}
-use Rattle.model_meaning.specs.BoxMeaning.{BoxMeaning}
 use Rattle.model_meaning.specs.MapMeaning.{MapMeaning, map_meaning}
 use Rattle.model_rewritten.specs.CarriedStore.{CarriesStore}
 use Rattle.model_store.proofs.StandsLemmas.{root_same}

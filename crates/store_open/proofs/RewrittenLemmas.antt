@@ -4,13 +4,8 @@ use Rattle.std.specs.List.{AllZip}
 use Rattle.std.proofs.lemmas.List.{length-map}
 use Rattle.std.proofs.lemmas.List.Elements.{All-nil, All-cons}
 use Rattle.box_snapshot.specs.Due.{NoLogDue, is_box_due, is_log_due, needs_of_box, needs_of_map}
-<<<<<<< HEAD
 use Rattle.box_snapshot.specs.Rewrites.{SyncsMailNames}
-use Rattle.disk_model.specs.Disk.{History, Between, IfTold}
-=======
-use Rattle.box_snapshot.specs.Rewrites.{SyncsMail}
 use Rattle.disk_model.specs.Disk.{DiskState, History, Between, IfTold}
->>>>>>> origin/undue
 use Rattle.mdbox_base.specs.declared.entries.BoxEntry.{BoxEntry}
 use Rattle.mdbox_base.specs.declared.entries.Highest.{Highest}
 use Rattle.mdbox_base.specs.declared.entries.MapEntry.{MapEntry}
@@ -129,11 +124,7 @@ abbrev pub CarriesStores : DiskState → DiskState → Type 0
 CarriesStores a b = (store : List ℕ) (entries : List MapEntry) (logs : List (List BoxEntry)) → Opens (files_of a) store entries logs → CarriesStore store entries logs (files_of a) (files_of b)
 
 pub carries_written : {D : Type 0} → (a b : Option History) (old new : StoreValue D) → IsStore a old → IsStore b new → old.stopped ≡ false → new.stopped ≡ false → MeansSame old.map new.map → indexes_of new.boxes ≡ indexes_of old.boxes
-<<<<<<< HEAD
-    → Between SyncsMailNames a b → StoreCarries a b
-=======
-    → Between SyncsMail a b → Between CarriesStores a b
->>>>>>> origin/undue
+    → Between SyncsMailNames a b → Between CarriesStores a b
 carries_written None b old new s t runs goes same are mail = mail
 carries_written (Some a) None old new s t runs goes same are mail = mail
 carries_written (Some a) (Some b) old new s t runs goes same are mail = λ store entries logs o.
