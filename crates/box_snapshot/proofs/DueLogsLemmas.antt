@@ -24,7 +24,7 @@ use Rattle.store_core.specs.Running.{AreBoxLogs}
 use Rattle.store_core.specs.Value.{StoreValue}
 use Rattle.store_core.specs.declared.store.OpenBox.{OpenBox}
 use Rattle.box_snapshot.specs.Due.{AreUndueTo, KeepsUndue, is_box_due, is_due_at, is_log_due, is_map_due, needs_of_box, needs_of_map}
-use Rattle.box_snapshot.specs.Rewrites.{IsBoxWritten}
+use Rattle.box_snapshot.specs.Rewrites.{IsBoxWritten, Rewrites}
 
 -- ---- a log that was written anew
 
@@ -199,7 +199,10 @@ kept_then a b c first second = λ number undue. second number (ap (λ (o : Optio
 pub kept_on : {D : Type 0} (a b c : StoreValue D) → c.boxes ≡ b.boxes → KeepsUndue a b → KeepsUndue a c
 kept_on a b c same first = λ number undue. ap (find (λ (x : OpenBox). x.number.0 == number)) same ∙ first number undue
 
--- ---- a store that isn't stopped
+-- ---- a store that isn't stopped, and without logs that were made
+
+pub unmade_still : {D : Type 0} (history : D → Option History) (old new : StoreValue D) → Rewrites history old new → old.made ≡ [] → new.made ≡ []
+unmade_still history old new r none = ap (λ (s : StoreValue _). s.made) r.same ∙ none
 
 pub runs_on : (stopped : Bool) → (stopped ≡ true → ⊥) → stopped ≡ false
 runs_on true never = absurd (never refl)

@@ -1,5 +1,5 @@
 -- The mailbox at a place of the map, as it is found by number.
-use Rattle.std.proofs.Common.{◌≡◌, ◌<◌, ◌==◌, ℕ, true, List, [], find, length, get_or, slice_get, map, Option, None, Some, IsSome, AllPairs, Bor, refl, sym, ◌∙◌, ap, arith}
+use Rattle.std.proofs.Common.{◌≡◌, ◌<◌, ◌==◌, ℕ, List, [], find, length, get_or, slice_get, map, Option, None, Some, IsSome, AllPairs, Bor, refl, sym, ◌∙◌, ap, arith}
 use Rattle.std.specs.Option.{option_copied, option_map}
 use Rattle.std.proofs.lemmas.Bool.{eq-eqb, eqb-true}
 use Rattle.std.proofs.lemmas.List.Elements.{Contains-get_or}

@@ -22,8 +22,8 @@ use Rattle.store_core.specs.MapDrafts.{IsMapDraft, MapDraftValue}
 use Rattle.store_core.specs.Value.{StoreValue}
 use Rattle.store_core.specs.declared.error.StepError.{StepError}
 use Rattle.store_core.specs.declared.error.StepError.TheVariants as step_error
-use Rattle.box_snapshot.specs.Filled.{IsDraftFilled}
-use Rattle.box_snapshot.specs.Rewrites.{AreNamesSynced, Rewrites, SyncsMailNames}
+use Rattle.box_snapshot.specs.MapFilled.{IsMapFilled}
+use Rattle.box_snapshot.specs.Rewrites.{AreNamesSynced, Rewrites}
 use Rattle.box_snapshot.proofs.MapGroupLemmas.{IsNextGroup}
 use Rattle.box_snapshot.proofs.RewritesLemmas.{LeavesValue, call_rewrites, mail_beside, names_beside}
 
@@ -39,12 +39,12 @@ draft_named h v draft d = if_told-map (IsLogDrafted draft.log (map map_text d.en
 same_draft : {D : Type 0} (old new : Option History) (v w : StoreValue D) (draft later : MapDraftValue) → IsMapDraft old draft v → IsMapDraft new later w → later.generation ≡ draft.generation → later.log.name ≡ draft.log.name
 same_draft old new v w draft later d e same = e.name ∙ ap (λ (g : ℕ). file.Map g) same ∙ sym d.name
 
-pub names_extended : {D : Type 0} (old new : Option History) (v w : StoreValue D) (draft later : MapDraftValue) (entries : List MapEntry) → IsDraftFilled old entries draft v → IsMapDraft new later w → later.generation ≡ draft.generation → SameButFor draft.log.name old new → IfTold new AreNamesSynced
+pub names_extended : {D : Type 0} (old new : Option History) (v w : StoreValue D) (draft later : MapDraftValue) (entries : List MapEntry) → IsMapFilled old entries draft v → IsMapDraft new later w → later.generation ≡ draft.generation → SameButFor draft.log.name old new → IfTold new AreNamesSynced
 names_extended old new v w draft later entries filled d same others =
     names_beside draft.log.name old new others filled.names
     (subst (λ (name : FileName). IfTold new (λ now. (now name).is_name_loose ≡ false)) (same_draft old new v w draft later filled.drafted d same) (draft_named new w later d))
 
-names_if_ok : {D T : Type 0} (old new : Option History) (v w : StoreValue D) (draft later : MapDraftValue) (entries : List MapEntry) (result : Result T StepError) → IsDraftFilled old entries draft v → later.generation ≡ draft.generation → OnOk result (IsMapDraft new later w) → OnOk result (SameButFor draft.log.name old new) → OnOk result (IfTold new AreNamesSynced)
+names_if_ok : {D T : Type 0} (old new : Option History) (v w : StoreValue D) (draft later : MapDraftValue) (entries : List MapEntry) (result : Result T StepError) → IsMapFilled old entries draft v → later.generation ≡ draft.generation → OnOk result (IsMapDraft new later w) → OnOk result (SameButFor draft.log.name old new) → OnOk result (IfTold new AreNamesSynced)
 names_if_ok old new v w draft later entries (Ok x) filled same d others = names_extended old new v w draft later entries filled d same others
 names_if_ok old new v w draft later entries (Err e) filled same d others = tt
 
@@ -54,7 +54,7 @@ pub same_map : {D : Type 0} (v w : StoreValue D) → LeavesValue v w → w.map �
 same_map v w same = ap (λ (s : StoreValue _). s.map) same
 
 -- a call that adds entries to a draft
-pub group_rewrites : {D T : Type 0} (history : D → Option History) (old new : StoreValue D) (draft later : MapDraftValue) (entries : List MapEntry) (result : Result T StepError) → IsDraftFilled (history old.disk) entries draft old → LeavesValue old new
+pub group_rewrites : {D T : Type 0} (history : D → Option History) (old new : StoreValue D) (draft later : MapDraftValue) (entries : List MapEntry) (result : Result T StepError) → IsMapFilled (history old.disk) entries draft old → LeavesValue old new
     → ((lists : Lists) → IsSettledFor lists (history old.disk) → Leaves lists lists (history old.disk) (history new.disk))
     → ((m : MapMeaning) → MailIsKept m (history old.disk) (history new.disk)) → Grows (history old.disk) (history new.disk)
     → IsErrOf result step_error.Stopped ↔ (new.stopped ≡ true) → (IsErrOf result step_error.NoMemory → (new ≡ old) × (later ≡ draft))
@@ -65,9 +65,9 @@ group_rewrites history old new draft later entries result filled same images sta
     (on_ok_weaker result (mail_beside draft.log.name (history old.disk) (history new.disk) (draft_is_log (history old.disk) old draft filled.drafted)) others)
     (names_if_ok (history old.disk) (history new.disk) old new draft later entries result filled generation d others)
 
-pub filled_next : {D : Type 0} (old new : Option History) (v w : StoreValue D) (draft later : MapDraftValue) (all : List MapEntry) (from : ℕ) (group : List MapEntry) → IsDraftFilled old (take from all) draft v → IsNextGroup v.map.store all from group → LeavesValue v w → IsMapDraft new later w
+pub filled_next : {D : Type 0} (old new : Option History) (v w : StoreValue D) (draft later : MapDraftValue) (all : List MapEntry) (from : ℕ) (group : List MapEntry) → IsMapFilled old (take from all) draft v → IsNextGroup v.map.store all from group → LeavesValue v w → IsMapDraft new later w
     → later.generation ≡ draft.generation → later.map.meaning ≡ fold (λ m e. map_applied e m) draft.map.meaning group → ((texts : List (List ℕ)) → Drafts draft.log texts old → Drafts later.log (texts ++ map map_text group) new)
-    → later.log.count ≡ draft.log.count + length group → SameButFor draft.log.name old new → IsDraftFilled new (take (from + length group) all) later w
+    → later.log.count ≡ draft.log.count + length group → SameButFor draft.log.name old new → IsMapFilled new (take (from + length group) all) later w
 filled_next old new v w draft later all from group filled next same d generation means added counted others =
     let before : List MapEntry = take from all in
     let map_same : w.map ≡ v.map = same_map v w same in

@@ -32,7 +32,7 @@ fit_behind : (store : List ℕ) (before xs : List MapEntry) → AllMapFit store 
 fit_behind store before [] fit = tt
 fit_behind store before (x ∷ xs) fit = (fit.0, subst (λ (m : MapMeaning). AllMapFitBehind m xs) (map_more store before x) (fit_behind store (before ++ x ∷ []) xs fit.1))
 
-each_part : {X : Type 0} (P : X → Type 0) (xs ys : List X) → AllByRecursion P (xs ++ ys) → AllByRecursion P xs × AllByRecursion P ys
+pub each_part : {X : Type 0} (P : X → Type 0) (xs ys : List X) → AllByRecursion P (xs ++ ys) → AllByRecursion P xs × AllByRecursion P ys
 each_part P [] ys each = (tt, each)
 each_part P (x ∷ xs) ys each = let rest = each_part P xs ys each.1 in ((each.0, rest.0), rest.1)
 

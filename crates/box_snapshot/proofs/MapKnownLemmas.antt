@@ -1,8 +1,6 @@
 -- The entries of the map log of a store, written anew.
-use Rattle.std.proofs.Common.{◌≡◌, ◌≤◌, ℕ, List, All, Option, arith, sym, subst, ap}
+use Rattle.std.proofs.Common.{Option, arith}
 use Rattle.disk_model.specs.Disk.{History}
-use Rattle.mdbox_base.specs.declared.entries.Highest.{Highest}
-use Rattle.model_meaning.specs.MapMeaning.{MapMeaning}
 use Rattle.model_meaning.specs.Sound.{AreInRange, IsSoundMap}
 use Rattle.sis_store.specs.Instances.{AreInstances}
 use Rattle.storage_files.specs.Files.{AreFilesInOrder}

@@ -1,13 +1,12 @@
 -- A store whose logs were written anew opens again, with logs that mean the same and the same mail.
-use Rattle.std.proofs.Common.{◌≡◌, ◌⊎◌, inl, inr, ℕ, Bool, true, false, List, map, Option, Some, None, All, refl, sym, ◌∙◌, ap, subst}
+use Rattle.std.proofs.Common.{◌≡◌, inl, inr, ℕ, false, List, map, Option, Some, None, All, refl, sym, ◌∙◌, ap, subst}
 use Rattle.std.proofs.lemmas.Bool.{cases_Bool, cond-false, cond-true, false≢true}
 use Rattle.disk_model.proofs.BetweenLemmas.{between-map}
-use Rattle.disk_model.specs.Disk.{DiskState, FileState, Files, History, Between, named, no_file, reading}
+use Rattle.disk_model.specs.Disk.{DiskState, FileState, History, Between, named, no_file, reading}
 use Rattle.disk_model.specs.Name.{IsLogName}
 use Rattle.disk_model.specs.declared.name.FileName.{FileName}
 use Rattle.disk_model.specs.declared.name.FileName.TheVariants as file
 use Rattle.mdbox_base.specs.declared.entries.BoxEntry.{BoxEntry}
-use Rattle.mdbox_base.specs.declared.entries.InstRow.{InstRow}
 use Rattle.mdbox_base.specs.declared.entries.MapEntry.{MapEntry}
 use Rattle.model_meaning.specs.BoxMeaning.{box_meaning}
 use Rattle.model_meaning.specs.MapMeaning.{MapMeaning, MapRecord, map_meaning}
@@ -16,7 +15,7 @@ use Rattle.model_rewritten.specs.CarriedStore.{CarriesMail, CarriesStore}
 use Rattle.model_store.proofs.OpeningLemmas.{one_store}
 use Rattle.model_store.specs.Opening.{Opens}
 use Rattle.model_store.specs.Safe.{LiesInFile}
-use Rattle.model_store.specs.Settled.{HasSameInstance, HasSameRegion, files_of}
+use Rattle.model_store.specs.Settled.{HasSameRegion, files_of}
 use Rattle.store_core.specs.Running.{IsStore}
 use Rattle.store_core.specs.Value.{StoreValue, indexes_of}
 use Rattle.box_snapshot.specs.Rewrites.{Rewrites, SyncsMailNames}

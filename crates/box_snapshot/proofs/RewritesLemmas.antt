@@ -1,11 +1,11 @@
 -- Logs that were written anew: of a store itself, one behind another, and of a call that leaves the store's value but for its disk.
-use Rattle.std.proofs.Common.{◌≡◌, ◌≢◌, ◌⊎◌, ◌↔◌, inl, inr, ℕ, Bool, true, false, Result, Ok, Err, OnOk, Option, Some, None, refl, sym, ◌∙◌, ap, subst, arith}
+use Rattle.std.proofs.Common.{◌≡◌, ◌≢◌, ◌⊎◌, ◌↔◌, inl, inr, true, false, Result, Ok, Err, OnOk, Option, Some, None, refl, sym, ◌∙◌, ap, subst, arith}
 use Rattle.std.specs.Prelude.{IsErrOf}
-use Rattle.std.proofs.lemmas.Bool.{cases_Bool, cond-false, cond-true, false≢true, true≢false}
-use Rattle.disk_model.proofs.BetweenLemmas.{between-begins, between-map, between-on, between-then}
+use Rattle.std.proofs.lemmas.Bool.{cases_Bool, cond-false, cond-true, true≢false}
+use Rattle.disk_model.proofs.BetweenLemmas.{between-begins, between-map, between-then}
 use Rattle.disk_model.proofs.MomentLemmas.{each_image-begins, each_image-map, each_image-then}
 use Rattle.disk_model.proofs.NameLemmas.{same_name-apart, same_name-true}
-use Rattle.disk_model.specs.Disk.{DiskState, FileState, Files, History, Between, EachImage, Grows, IfTold, IsImage, IsThere, SameButFor, named, no_file, reading}
+use Rattle.disk_model.specs.Disk.{FileState, History, Between, EachImage, Grows, IfTold, IsImage, SameButFor, named, no_file, reading}
 use Rattle.disk_model.specs.Name.{IsLogName, same_name}
 use Rattle.disk_model.specs.declared.name.FileName.{FileName}
 use Rattle.gate_log.specs.Log.{NamedButFor}
@@ -22,7 +22,6 @@ use Rattle.store_core.specs.Drafts.{AreNamedButFor}
 use Rattle.store_core.specs.Value.{StoreValue, indexes_of}
 use Rattle.store_core.specs.declared.error.StepError.{StepError}
 use Rattle.store_core.specs.declared.error.StepError.TheVariants as step_error
-use Rattle.store_core.specs.declared.store.OpenBox.{OpenBox}
 use Rattle.box_snapshot.specs.Rewrites.{AreNamesSynced, LeavesNoOldLogs, OnlyLogsInForce, Rewrites, SyncsMailNames}
 
 -- ---- storage files and instances, and names

@@ -1,3 +1,4 @@
+pub mod BoxFilled
 pub mod Due
-pub mod Filled
+pub mod MapFilled
 pub mod Rewrites

@@ -1,5 +1,5 @@
 -- What a store and its disk are when logs were written anew.
-use Rattle.std.specs.Prelude.{◌≡◌, ◌⊎◌, ◌+◌, ◌==◌, ℕ, false, List, length, map, find, if◌then◌else◌, Option, Some}
+use Rattle.std.specs.Prelude.{◌≡◌, ◌⊎◌, ◌+◌, ◌==◌, ℕ, false, length, map, find, if◌then◌else◌, Option, Some}
 use Rattle.disk_model.specs.Disk.{DiskState, History, Between, EachImage, Grows, IfTold, IsThere, named}
 use Rattle.disk_model.specs.Name.{IsLogName}
 use Rattle.disk_model.specs.declared.name.FileName.{FileName}

@@ -7,6 +7,7 @@ pub use due_logs::snapshot_due;
 pub use laws::rewritten_stores_open_again;
 pub use map_log::snapshot_map;
 
+mod box_entries;
 mod box_log;
 mod due;
 mod due_logs;

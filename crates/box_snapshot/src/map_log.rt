@@ -6,7 +6,7 @@ ghost use Rattle.gate_log.specs.Log.{NamedButFor};
 ghost use Rattle.model_rewritten.specs.Rewriting.{IsRewrittenMap, map_snapshot};
 ghost use Rattle.store_core.specs.declared.error.StepError.TheVariants as step_error;
 ghost use Rattle.box_snapshot.specs.Due.{is_map_due};
-ghost use Rattle.box_snapshot.specs.Filled.{IsDraftFilled};
+ghost use Rattle.box_snapshot.specs.MapFilled.{IsMapFilled};
 ghost use Rattle.box_snapshot.specs.Rewrites.{IsMapWritten, LeavesNoOldLogs, Rewrites};
 
 use crate::map_entries::{entries_in, group_of};
@@ -35,8 +35,8 @@ pub fn snapshot_map<D: Disk>(store: &mut Store<D>) -> Result<(), StepError>
     ensures fault { ChangeFaultCounted (IsErrOf result step_error.Stopped) (D.faults store.old.disk) (D.faults store.new.disk) }
     ensures unfailed { (IsErrOf result step_error.Stopped → ⊥) → NoFault (D.faults store.old.disk) (D.faults store.new.disk) }
 {
-    store.facts();
     let draft = drafted(store)?;
+    store.facts();
     store.switch_map(draft)
 }
 
@@ -45,7 +45,7 @@ fn drafted<D: Disk>(store: &mut Store<D>) -> Result<MapDraft, StepError>
     requires running { store.old.stopped ≡ false }
     requires due { is_map_due store.old ≡ true }
     ensures rewrites { Rewrites D.history store.old store.new }
-    ensures filled { IfOk result (λ draft. IsDraftFilled (D.history store.new.disk) (map_snapshot store.old.map) draft store.new) }
+    ensures filled { IfOk result (λ draft. IsMapFilled (D.history store.new.disk) (map_snapshot store.old.map) draft store.new) }
     ensures means { IfOk result (λ draft. draft.map.meaning ≡ store.old.map) }
     ensures generation { IfOk result (λ draft. draft.generation ≡ store.old.map_log.head.generation + 1) }
     ensures others { IfOk result (λ draft. NamedButFor draft.log.name (D.history store.old.disk) (D.history store.new.disk)) }
@@ -64,9 +64,9 @@ fn drafted<D: Disk>(store: &mut Store<D>) -> Result<MapDraft, StepError>
 /// Adds all entries to a draft of the map log that has none.
 fn fill<D: Disk>(store: &mut Store<D>, draft: &mut MapDraft) -> Result<(), StepError>
     requires running { store.old.stopped ≡ false }
-    requires filled { IsDraftFilled (D.history store.old.disk) [] draft.old store.old }
+    requires filled { IsMapFilled (D.history store.old.disk) [] draft.old store.old }
     ensures rewrites { Rewrites D.history store.old store.new }
-    ensures filled { OnOk result (IsDraftFilled (D.history store.new.disk) (map_snapshot store.old.map) draft.new store.new) }
+    ensures filled { OnOk result (IsMapFilled (D.history store.new.disk) (map_snapshot store.old.map) draft.new store.new) }
     ensures others { OnOk result (SameButFor draft.old.log.name (D.history store.old.disk) (D.history store.new.disk)) }
     ensures number { draft.new.generation ≡ draft.old.generation }
     ensures stopped { IsErrOf result step_error.Stopped ↔ (store.new.stopped ≡ true) }
@@ -90,10 +90,10 @@ fn add_group<D: Disk>(
 ) -> Result<u64, StepError>
     requires running { store.old.stopped ≡ false }
     requires within { from < length (map_snapshot store.old.map) }
-    requires filled { IsDraftFilled (D.history store.old.disk) (take from (map_snapshot store.old.map)) draft.old store.old }
+    requires filled { IsMapFilled (D.history store.old.disk) (take from (map_snapshot store.old.map)) draft.old store.old }
     ensures rewrites { Rewrites D.history store.old store.new }
     ensures further { IfOk result (λ to. (from < to) × (to ≤ length (map_snapshot store.old.map))) }
-    ensures filled { IfOk result (λ to. IsDraftFilled (D.history store.new.disk) (take to (map_snapshot store.old.map)) draft.new store.new) }
+    ensures filled { IfOk result (λ to. IsMapFilled (D.history store.new.disk) (take to (map_snapshot store.old.map)) draft.new store.new) }
     ensures others { OnOk result (SameButFor draft.old.log.name (D.history store.old.disk) (D.history store.new.disk)) }
     ensures number { draft.new.generation ≡ draft.old.generation }
     ensures stopped { IsErrOf result step_error.Stopped ↔ (store.new.stopped ≡ true) }

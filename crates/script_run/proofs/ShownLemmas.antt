@@ -105,7 +105,7 @@ carried_safe lists None new carry safe = absurd safe
 carried_safe lists (Some h) None carry safe = absurd carry
 carried_safe lists (Some h) (Some g) carry safe =
     let o = safe_opens (files_of h.now) safe.store safe.entries lists safe.by in
-    let again = carry safe.store safe.entries o.0 o.1 in
+    let again = carry.again safe.store safe.entries o.0 o.1 in
     record { store = safe.store; entries = again.later; by = safe_again (files_of h.now) (files_of g.now) safe.store safe.entries o.0 lists safe.by o.1 again }
 
 -- a store that isn't stopped opens again

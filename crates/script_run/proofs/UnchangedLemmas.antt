@@ -71,7 +71,7 @@ still_opened : (old new : Option History) (m : MapMeaning) (meanings : List BoxM
 still_opened None new m meanings o carry = subst (λ (h : Option History). IsOpenedAs h m meanings) (sym carry) o
 still_opened (Some old) None m meanings o carry = absurd carry
 still_opened (Some old) (Some new) m meanings o carry =
-    let again = carry m.store o.entries o.logs o.opens in
+    let again = carry.again m.store o.entries o.logs o.opens in
     record {
       entries = again.later;
       logs = again.later_logs;

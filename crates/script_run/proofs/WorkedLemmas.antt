@@ -43,6 +43,7 @@ worked_out {D} history faults script lanes old began world ended apart o went la
       sound = p.store;
       known = p.known;
       running = p.running;
+      undue = p.undue;
       parts = o.parts;
       are = o.are;
       fresh = world;

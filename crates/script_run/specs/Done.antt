@@ -31,9 +31,10 @@ MayBeServed script old = (lists : Lists) × MayRead script lists old
 abbrev pub MayBeKept : Requests → Option History → Type 0
 MayBeKept script old = (has_purge script ≡ false) × (has_delivery script ≡ true → MayBeServed script old)
 
--- The opening swept the disk, and the store opens again with logs that mean the same and the same mail; a store that was closed well it
--- left as it was. A script that only lists, counts and fetches changes nothing since; and one with neither a delivery nor a purge leaves
--- storage files and instances as the opening left them, but that names may be synced, unless a change of the disk failed.
+-- The opening swept the disk, and the store opens again with logs that mean the same and the same mail, with all that it read where no
+-- log was due to be written anew; a store that was closed well it left as it was. A script that only lists, counts and fetches changes
+-- nothing since; and one with neither a delivery nor a purge leaves storage files and instances as the opening left them, but that names
+-- may be synced, unless a change of the disk failed.
 pub record LeavesStore (script : Requests) (m : MapMeaning) (given : List Reply) (old new : Option History) : Type 0 where
   pub generation : ℕ
   pub opened : Option History

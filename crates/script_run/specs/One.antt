@@ -136,7 +136,8 @@ pub record ServesRequest (request : Request) (lists : Lists) (given : Reply) (be
   pub timely : IsSettledFor lists old → AreTimely lists run journal new
   pub settled : (given ≡ reply.Refused refusal.Stopped → ⊥) → IsSettledFor lists old → IsSettledFor (left_by lists journal) new
 
--- The files open again with logs that mean the same and the same mail, and the disk was swept.
+-- The files open again with logs that mean the same and the same mail, with all that was read where no log was due to be written anew,
+-- and the disk was swept.
 abbrev pub OpensUnchanged : MapMeaning → List BoxMeaning → Option History → Option History → Type 0
 OpensUnchanged m meanings old new = IsOpenedAs new m meanings × StoreCarries old new × ((generation : ℕ) × IsSwept generation m old new)
 

@@ -1,5 +1,6 @@
 -- A script that was opened: its store, and a world that began over it.
 use Rattle.std.specs.Prelude.{◌≡◌, ◌≤◌, ℕ, false, Option}
+use Rattle.box_snapshot.specs.Due.{NoLogDue}
 use Rattle.disk_model.specs.Disk.{EachImage, Faults, History}
 use Rattle.model_lists.specs.Lists.{Lists}
 use Rattle.model_store.specs.Safe.{Safe}
@@ -19,9 +20,10 @@ use Rattle.lanes.specs.Worlds.{AreOfLanes, ArePartsOf, IsFreshWorld, PartsValue,
 use Rattle.script_run.specs.Opening.{StaysSettled}
 
 -- The store was opened, and isn't stopped: with logs, storage files and instances that the files have, and no number is drawn nor count due
--- that they don't have. The opening swept the disk, and left a store that was closed well as it was; the store opens again with logs that
--- mean the same and the same mail. Of a disk that was settled for lists each crash image is safe for them, and it is settled for them
--- again. At each moment storage files and instances stayed.
+-- that they don't have; none of its logs is due to be written anew. The opening swept the disk, and left a store that was closed well as
+-- it was; the store opens again with logs that mean the same and the same mail, with all that it read where no log was due. Of a disk that
+-- was settled for lists each crash image is safe for them, and it is settled for them again. At each moment storage files and instances
+-- stayed.
 pub record IsStoreOpened {D : Type 0} (old mid : Option History) (s : StoreValue D) : Type 0 where
   pub opened : IsOpenedAs old s.map (indexes_of s.boxes)
   pub store : IsStore mid s
@@ -32,6 +34,7 @@ pub record IsStoreOpened {D : Type 0} (old mid : Option History) (s : StoreValue
   pub files : IsFoundFiles s.map old s.files
   pub instances : IsFoundInstances s.map s.instances
   pub running : s.stopped ≡ false
+  pub undue : NoLogDue s
   pub safe : (lists : Lists) → IsSettledFor lists old → EachImage (λ _ image. Safe image lists) old mid
   pub settled_again : StaysSettled old mid
   pub carried : StoreCarries old mid

@@ -16,7 +16,7 @@ use Rattle.list_machine.specs.Run.{Run}
 use Rattle.store_files.specs.Barred.{is_barred}
 use Rattle.store_files.specs.Regions.{end_of, region_numbers}
 use Rattle.store_open.specs.Making.{IdleUnless}
-use Rattle.store_open.specs.Opened.{Opening, StoreCarries, IsOpeningError, KeepsOpenedMail, IsClosedWell}
+use Rattle.store_open.specs.Opened.{Opening, StoreCarries, IsOpeningError, KeepsOpenedMail, IsClosedWell, HasNoLogDue}
 use Rattle.store_open.specs.declared.error.OpenError.{OpenError}
 use Rattle.store_open.specs.declared.error.OpenError.TheVariants as error
 use Rattle.store_sweep.specs.Moments.{NoFailedChange, IdleIf}
@@ -52,12 +52,13 @@ abbrev pub StaysSettled : Option History → Option History → Type 0
 StaysSettled old new = (lists : Lists) → IsSettledFor lists old → IsSettledFor lists new
 
 -- The store was not opened. Each crash image of a settled disk is safe for its lists; unless a change failed, it is settled
--- for them again, and the store opens again with logs that mean the same and the same mail. At each moment storage files and
--- instances stayed. A store that was closed well was left as it is, and so was every disk unless the device failed or the memory
--- wasn't there.
+-- for them again, and the store opens again with logs that mean the same and the same mail, with all that was read where no log was
+-- due to be written anew. At each moment storage files and instances stayed. A store that was closed well was left as it is, and so
+-- was every disk unless the device failed, or there was no memory and a log was due.
 pub record IsUnopened (why : OpenError) (old new : Option History) (began now : Faults) : Type 0 where
   pub cause : IsOpeningError old why
   pub idle : (why ≡ error.DiskFault → ⊥) → (why ≡ error.NoMemory → ⊥) → IsIdle old new
+  pub memory : why ≡ error.NoMemory → IdleIf HasNoLogDue old new
   pub untouched : IdleUnless Opening old new
   pub stays : KeepsOpenedMail old new
   pub closed_well : IdleIf IsClosedWell old new

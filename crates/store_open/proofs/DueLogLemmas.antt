@@ -1,12 +1,12 @@
 -- What an opening answers whose due logs were written anew, from what was known before that.
 use Rattle.std.proofs.Common.{◌≡◌, ◌⊎◌, inl, inr, ℕ, Bool, true, false, List, Option, Some, None, Result, Ok, Err, refl, sym, ◌∙◌, ap, subst}
-use Rattle.std.specs.Prelude.{◌↔◌, IfOk, IsErrOf}
+use Rattle.std.specs.Prelude.{◌↔◌, IfErr, IfOk, IsErrOf}
 use Rattle.std.proofs.lemmas.Bool.{cases_Bool}
 use Rattle.box_snapshot.specs.Due.{NoLogDue}
 use Rattle.box_snapshot.specs.Rewrites.{AreNamesSynced, LeavesNoOldLogs, SyncsMailNames}
-use Rattle.disk_model.proofs.BetweenLemmas.{between-map, between-then}
+use Rattle.disk_model.proofs.BetweenLemmas.{between-back, between-if, between-map, between-then}
 use Rattle.disk_model.proofs.MomentLemmas.{each_image-then, if_told-both}
-use Rattle.disk_model.specs.Disk.{Between, EachImage, Faults, Files, History, IfTold}
+use Rattle.disk_model.specs.Disk.{Between, DiskState, EachImage, Faults, Files, History, IfTold}
 use Rattle.disk_model.specs.FaultCounts.{NoFault, ChangeFaultCounted}
 use Rattle.disk_model.specs.declared.name.FileName.TheVariants as file
 use Rattle.mdbox_base.specs.declared.entries.BoxEntry.{BoxEntry}
@@ -15,10 +15,12 @@ use Rattle.model_kept.proofs.KeptLemmas.{ReadsImage, kept_then}
 use Rattle.model_kept.specs.Kept.{MailIsKept}
 use Rattle.model_lists.specs.Lists.{Lists}
 use Rattle.model_logs.specs.declared.log_head.LogHead.{LogHead}
-use Rattle.model_meaning.specs.MapMeaning.{MapMeaning}
+use Rattle.model_meaning.specs.MapMeaning.{MapMeaning, map_meaning}
 use Rattle.model_rewritten.specs.CarriedStore.{CarriesStore}
 use Rattle.model_store.proofs.StandsLemmas.{root_same}
+use Rattle.model_store.specs.Carrying.{CarryOver}
 use Rattle.model_store.specs.Listing.{ShowLists}
+use Rattle.model_store.specs.Opening.{Opens}
 use Rattle.model_store.specs.Safe.{Safe}
 use Rattle.model_store.specs.Settled.{files_of, IsSettledFor}
 use Rattle.store_core.specs.Running.{IsStore}
@@ -28,14 +30,15 @@ use Rattle.store_core.specs.declared.error.StepError.TheVariants as step_error
 use Rattle.store_files.specs.Found.{IsFoundFiles}
 use Rattle.store_instances.specs.FoundInstances.{IsFoundInstances}
 use Rattle.store_open.proofs.CheckedLemmas.{OpensAt}
-use Rattle.store_open.proofs.RewrittenLemmas.{carries_written, files_same, instances_same, opened_same, shows_same, undue_closed}
+use Rattle.store_open.proofs.RewrittenLemmas.{CarriesStores, carries_written, files_same, instances_same, opened_same, shows_same, undue_carried, undue_opened}
 use Rattle.store_open.proofs.RewrittenSweepLemmas.{AllWanted, IsWrittenDisk, NoOthers, names_synced, swept_written, unneeded_gone}
-use Rattle.store_open.specs.Opened.{IsClosedWell, IsFaulted, IsOpenedAs, StoreCarries, disk_of}
+use Rattle.store_open.proofs.StillOpensLemmas.{carries_own}
+use Rattle.store_open.specs.Opened.{CarriesAll, CarriesOpened, HasNoLogDue, IsClosedWell, IsFaulted, IsOpenedAs, StoreCarries, disk_of}
 use Rattle.store_open.specs.Causes.{of_step}
 use Rattle.store_open.specs.Rewritten.{WritesDueLogs}
 use Rattle.store_open.specs.declared.error.OpenError.TheVariants.{DiskFault, NoMemory}
 use Rattle.store_open.specs.declared.error.OpenRefused.{OpenRefused}
-use Rattle.store_sweep.proofs.IdleSweepLemmas.{idle_same}
+use Rattle.store_sweep.proofs.IdleSweepLemmas.{idle_if_not, idle_same, idle_weaker}
 use Rattle.store_sweep.specs.Moments.{IdleIf, NamesSynced, NoFailedChange}
 use Rattle.store_sweep.specs.Swept.{IsSwept}
 
@@ -92,14 +95,32 @@ shows_anew h old r first w shows =
 abbrev pub CarriesOn : Type 0
 CarriesOn = (a b c : Files) (store : List ℕ) (entries : List MapEntry) (logs : List (List BoxEntry)) → (s : CarriesStore store entries logs a b) → CarriesStore store s.later s.later_logs b c → CarriesStore store entries logs a c
 
-carries_then : CarriesOn → (old mid new : Option History) → StoreCarries old mid → StoreCarries mid new → StoreCarries old new
-carries_then on old mid new first second =
-    between-then _ _ _ old mid new (λ a b c p q store entries logs o. let s = p store entries logs o in on (files_of a) (files_of b) (files_of c) store entries logs s (q store s.later s.later_logs s.opens)) first second
+-- the files open again, and where no log was due nothing has changed
+record WritesDue (a b : DiskState) : Type 0 where
+  again : CarriesStores a b
+  same : HasNoLogDue a → b ≡ a
 
-pub carried_anew : {D : Type 0} → (h : D → Option History) (old : StoreValue D) (r : Answer D) (first : Option History) → CarriesOn → (w : WritesDueLogs h old r) → old.stopped ≡ false → w.new.stopped ≡ false → StoreCarries first (h old.disk) → StoreCarries first (h (disk_of r))
-carried_anew {D} h old r first on w runs goes before =
-    subst (λ (d : D). StoreCarries first (h d)) (sym w.disk)
-    (carries_then on first (h old.disk) (h w.new.disk) before (carries_written (h old.disk) (h w.new.disk) old w.new w.was w.is runs goes w.rewrites.means w.rewrites.indexes (w.rewrites.mail goes)))
+-- the state, where no log of a running store is due
+undue_same : {D : Type 0} → (now : History) (new : Option History) (old : StoreValue D) → IsStore (Some now) old → old.stopped ≡ false → (NoLogDue old → new ≡ Some now) → HasNoLogDue now.now → new ≡ Some now
+undue_same now new old s runs idle none = idle (undue_opened now old s runs none)
+
+writes_due : {D : Type 0} → (now new : Option History) (old : StoreValue D) → IsStore now old → old.stopped ≡ false → (NoLogDue old → new ≡ now) → Between CarriesStores now new → Between WritesDue now new
+writes_due None new old s runs idle again = again
+writes_due (Some now) None old s runs idle again = again
+writes_due (Some now) (Some new) old s runs idle again = record { again = again; same = λ none. let e : Some new ≡ Some now = undue_same now (Some new) old s runs idle none in cc e }
+
+all_then : CarriesOn → (a b c : DiskState) → CarriesAll a b → WritesDue b c → CarriesOpened a c
+all_then on a b c all due = record {
+  again = λ store entries logs o. let s = carries_own store entries logs (files_of a) (files_of b) o (all store entries logs o) in on (files_of a) (files_of b) (files_of c) store entries logs s (due.again store s.later s.later_logs s.opens);
+  undue = λ none store entries logs o. subst (λ (d : DiskState). CarryOver o.passed.map_log.generation (map_meaning store entries) (files_of a) (files_of d)) (sym (due.same (undue_carried a b store entries logs o all none))) (all store entries logs o);
+}
+
+pub carried_anew : {D : Type 0} → (h : D → Option History) (old : StoreValue D) (r : Answer D) (first : Option History) → CarriesOn → (w : WritesDueLogs h old r) → old.stopped ≡ false → w.new.stopped ≡ false → (NoLogDue old → r ≡ Ok old) → Between CarriesAll first (h old.disk) → StoreCarries first (h (disk_of r))
+carried_anew {D} h old r first on w runs goes idle before =
+    let again : Between CarriesStores (h old.disk) (h (disk_of r)) =
+    subst (λ (d : D). Between CarriesStores (h old.disk) (h d)) (sym w.disk) (carries_written (h old.disk) (h w.new.disk) old w.new w.was w.is runs goes w.rewrites.means w.rewrites.indexes (w.rewrites.mail goes)) in
+    between-then CarriesAll WritesDue CarriesOpened first (h old.disk) (h (disk_of r)) (all_then on) before
+    (writes_due (h old.disk) (h (disk_of r)) old w.was runs (λ undue. ap (λ (a : Answer D). h (disk_of a)) (idle undue)) again)
 
 pub settled_anew : {D : Type 0} → (h : D → Option History) (old : StoreValue D) (r : Answer D) (lists : Lists) → (w : WritesDueLogs h old r) → w.new.stopped ≡ false → IsSettledFor lists (h old.disk) → IsSettledFor lists (h (disk_of r))
 settled_anew {D} h old r lists w goes s = subst (λ (d : D). IsSettledFor lists (h d)) (sym w.disk) (w.rewrites.settled goes lists s)
@@ -111,12 +132,32 @@ safe_anew {D} h old r first lists w s before =
 pub kept_anew : {D : Type 0} → (h : D → Option History) (old : StoreValue D) (r : Answer D) (first : Option History) (m : MapMeaning) → WritesDueLogs h old r → IfTold (h old.disk) ReadsImage → MailIsKept m first (h old.disk) → MailIsKept m first (h (disk_of r))
 kept_anew {D} h old r first m w reads before = subst (λ (d : D). MailIsKept m first (h d)) (sym w.disk) (kept_then m first (h old.disk) (h w.new.disk) reads before (w.rewrites.mail_stays m))
 
-closed_by : {D : Type 0} → (now new : Option History) (old : StoreValue D) → IsStore now old → old.stopped ≡ false → (NoLogDue old → new ≡ now) → IdleIf IsClosedWell now new
-closed_by None new old s runs idle = tt
-closed_by (Some now) new old s runs idle = λ p. idle_same (Some now) new (idle (undue_closed now old s runs p))
+-- ---- where no log is due
+
+undue_by : {D : Type 0} → (now new : Option History) (old : StoreValue D) → IsStore now old → old.stopped ≡ false → (NoLogDue old → new ≡ now) → IdleIf HasNoLogDue now new
+undue_by None new old s runs idle = tt
+undue_by (Some now) new old s runs idle = λ none. idle_same (Some now) new (undue_same now new old s runs idle none)
 
 pub closed_anew : {D : Type 0} → (h : D → Option History) (old : StoreValue D) (r : Answer D) → WritesDueLogs h old r → old.stopped ≡ false → (NoLogDue old → r ≡ Ok old) → IdleIf IsClosedWell (h old.disk) (h (disk_of r))
-closed_anew {D} h old r w runs idle = closed_by (h old.disk) (h (disk_of r)) old w.was runs (λ undue. ap (λ (a : Answer D). h (disk_of a)) (idle undue))
+closed_anew {D} h old r w runs idle =
+    idle_weaker IsClosedWell HasNoLogDue (h old.disk) (h (disk_of r)) (λ disk p. p.undue) (undue_by (h old.disk) (h (disk_of r)) old w.was runs (λ undue. ap (λ (a : Answer D). h (disk_of a)) (idle undue)))
+
+-- a store without a log that is due is no refusal
+no_refusal : {D : Type 0} → (now : Option History) (old : StoreValue D) (given : OpenRefused D) → IsStore now old → old.stopped ≡ false → (NoLogDue old → Err given ≡ Ok old) → IfTold now (λ disk. HasNoLogDue disk → ⊥)
+no_refusal None old given s runs idle = tt
+no_refusal (Some now) old given s runs idle = λ none. let e : Err given ≡ Ok old = idle (undue_opened now old s runs none) in absurd (cc e)
+
+-- so if it is refused, a log was due at the beginning
+undue_since : (first now : Option History) (store : List ℕ) (entries : List MapEntry) (logs : List (List BoxEntry)) → IfTold first (λ disk. Opens (files_of disk) store entries logs) → Between CarriesAll first now → IfTold now (λ disk. HasNoLogDue disk → ⊥)
+    → IfTold first (λ disk. HasNoLogDue disk → ⊥)
+undue_since first now store entries logs opens all due =
+    between-back (λ a b. HasNoLogDue a → HasNoLogDue b) (λ disk. HasNoLogDue disk → ⊥) (λ disk. HasNoLogDue disk → ⊥) first now (λ a b keeps no none. no (keeps none))
+    (between-if CarriesAll (λ a b. HasNoLogDue a → HasNoLogDue b) (λ disk. Opens (files_of disk) store entries logs) first now (λ a b carry o. undue_carried a b store entries logs o carry) all opens) due
+
+pub memory_anew : {D : Type 0} → (h : D → Option History) (old : StoreValue D) (r : Answer D) (first : Option History) (store : List ℕ) (entries : List MapEntry) (logs : List (List BoxEntry)) → WritesDueLogs h old r → old.stopped ≡ false → (NoLogDue old → r ≡ Ok old)
+    → IfTold first (λ disk. Opens (files_of disk) store entries logs) → Between CarriesAll first (h old.disk) → IfErr r (λ refused. refused.error ≡ NoMemory → IdleIf HasNoLogDue first (h refused.disk))
+memory_anew h old (Ok s) first store entries logs w runs idle opens all = tt
+memory_anew h old (Err given) first store entries logs w runs idle opens all = λ memory. idle_if_not HasNoLogDue first (h given.disk) (undue_since first (h old.disk) store entries logs opens all (no_refusal (h old.disk) old given w.was runs idle))
 
 -- ---- the sweep
 

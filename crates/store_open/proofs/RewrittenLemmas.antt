@@ -5,7 +5,7 @@ use Rattle.std.proofs.lemmas.List.{length-map}
 use Rattle.std.proofs.lemmas.List.Elements.{All-nil, All-cons}
 use Rattle.box_snapshot.specs.Due.{NoLogDue, is_box_due, is_log_due, needs_of_box, needs_of_map}
 use Rattle.box_snapshot.specs.Rewrites.{SyncsMailNames}
-use Rattle.disk_model.specs.Disk.{History, Between, IfTold}
+use Rattle.disk_model.specs.Disk.{DiskState, History, Between, IfTold}
 use Rattle.mdbox_base.specs.declared.entries.BoxEntry.{BoxEntry}
 use Rattle.mdbox_base.specs.declared.entries.Highest.{Highest}
 use Rattle.mdbox_base.specs.declared.entries.MapEntry.{MapEntry}
@@ -30,9 +30,10 @@ use Rattle.store_core.specs.Value.{StoreValue, indexes_of}
 use Rattle.store_core.specs.declared.store.OpenBox.{OpenBox}
 use Rattle.store_files.specs.Found.{IsFoundFiles}
 use Rattle.store_instances.specs.FoundInstances.{IsFoundInstances}
+use Rattle.store_open.proofs.StillOpensLemmas.{opens_along}
 use Rattle.store_open.proofs.SweptStoreLemmas.{carry_self}
 use Rattle.store_open.proofs.SyncedMailLemmas.{mail_on}
-use Rattle.store_open.specs.Opened.{IsBoxUndue, IsClosedWell, IsOpenedAs, StoreCarries}
+use Rattle.store_open.specs.Opened.{AreUndue, CarriesAll, HasNoLogDue, IsBoxUndue, IsOpenedAs}
 
 -- ---- maps that mean the same
 
@@ -118,8 +119,12 @@ carried_as a b old new s t r q same are mail =
       mail = mail_on before (files_of a.now) a.now b.now mail (record { regions = own.regions; instances = own.instances });
     }
 
+-- whatever store the files opened with, they open again
+abbrev pub CarriesStores : DiskState → DiskState → Type 0
+CarriesStores a b = (store : List ℕ) (entries : List MapEntry) (logs : List (List BoxEntry)) → Opens (files_of a) store entries logs → CarriesStore store entries logs (files_of a) (files_of b)
+
 pub carries_written : {D : Type 0} → (a b : Option History) (old new : StoreValue D) → IsStore a old → IsStore b new → old.stopped ≡ false → new.stopped ≡ false → MeansSame old.map new.map → indexes_of new.boxes ≡ indexes_of old.boxes
-    → Between SyncsMailNames a b → StoreCarries a b
+    → Between SyncsMailNames a b → Between CarriesStores a b
 carries_written None b old new s t runs goes same are mail = mail
 carries_written (Some a) None old new s t runs goes same are mail = mail
 carries_written (Some a) (Some b) old new s t runs goes same are mail = λ store entries logs o.
@@ -129,7 +134,7 @@ carries_written (Some a) (Some b) old new s t runs goes same are mail = λ store
     (subst (λ (es : List MapEntry). CarriesStore store es s.logs (files_of a.now) (files_of b.now)) e.1
     (subst (λ (i : List ℕ). CarriesStore i s.entries s.logs (files_of a.now) (files_of b.now)) e.0 c))
 
--- ---- a store that was closed well has no log that is due
+-- ---- a store whose files have no log that is due has none
 
 due_as : (count number needs want generation other : ℕ) → count ≡ number → needs ≡ want → generation ≡ other → is_log_due count needs generation ≡ is_log_due number want other
 due_as count number needs want generation other a b c = cc (a, b, c)
@@ -148,16 +153,29 @@ undue_boxes store (x ∷ xs) (b ∷ bs) (l ∷ ls) now named reads means undue =
     let generation : b.log.head.generation ≡ x.generation = ap (λ (h : LogHead). h.generation) named.2 in
     All-cons (λ (c : OpenBox). is_box_due c ≡ false) b bs (due_as _ _ _ _ _ _ count (ap needs_of_box own) generation ∙ undue.0) (undue_boxes store xs bs ls now named.3 reads.1 later undue.1)
 
-pub undue_closed : {D : Type 0} → (now : History) (store : StoreValue D) → IsStore (Some now) store → store.stopped ≡ false → IsClosedWell now.now → NoLogDue store
-undue_closed now store s runs p =
+pub undue_opened : {D : Type 0} → (now : History) (store : StoreValue D) → IsStore (Some now) store → store.stopped ≡ false → HasNoLogDue now.now → NoLogDue store
+undue_opened now store s runs none =
     let r = s.running runs in
-    let e = one_store (files_of now.now) p.store store.map.store p.entries s.entries p.logs s.logs p.opens r.opens in
-    let g = root_same (files_of now.now) p.store store.map.store p.opens.passed.map_log.generation s.generation p.opens.passed.map_log.root r.root in
-    let means : map_meaning p.store p.entries ≡ store.map = cc (e.0, e.1, s.map_is) in
-    let count : store.map_log.count ≡ length p.entries = r.map_log_reads.count ∙ length-map s.entries map_text ∙ ap length (sym e.1) in
-    let generation : store.map_log.head.generation ≡ p.opens.passed.map_log.generation = ap (λ (h : LogHead). h.generation) s.map_head ∙ sym g.1 in
+    let u = none store.map.store s.entries s.logs r.opens in
+    let g = root_same (files_of now.now) store.map.store store.map.store r.opens.passed.map_log.generation s.generation r.opens.passed.map_log.root r.root in
+    let count : store.map_log.count ≡ length s.entries = r.map_log_reads.count ∙ length-map s.entries map_text in
+    let generation : store.map_log.head.generation ≡ r.opens.passed.map_log.generation = ap (λ (h : LogHead). h.generation) s.map_head ∙ sym g.1 in
     record {
-      boxes = undue_boxes store.map.store store.map.boxes store.boxes s.logs now s.box_logs r.box_logs_read s.boxes_are
-          (subst (λ (m : MapMeaning). AllZip IsBoxUndue m.boxes s.logs) means (subst (λ (ls : List (List BoxEntry)). AllZip IsBoxUndue (map_meaning p.store p.entries).boxes ls) e.2 p.undue_boxes));
-      map_log = due_as _ _ _ _ _ _ count (ap needs_of_map (sym means)) generation ∙ p.undue_map;
+      boxes = undue_boxes store.map.store store.map.boxes store.boxes s.logs now s.box_logs r.box_logs_read s.boxes_are (subst (λ (m : MapMeaning). AllZip IsBoxUndue m.boxes s.logs) (sym s.map_is) u.boxes);
+      map_log = due_as _ _ _ _ _ _ count (ap needs_of_map s.map_is) generation ∙ u.map_log;
     }
+
+-- Files that carry over all have no log that is due, if there was none.
+same_undue : (g k : ℕ) (m n : MapMeaning) (es fs : List MapEntry) (xs ys : List (List BoxEntry)) → g ≡ k → m ≡ n → es ≡ fs → xs ≡ ys → AreUndue g m es xs → AreUndue k n fs ys
+same_undue g k m n es fs xs ys a b c d u =
+    subst (λ (ls : List (List BoxEntry)). AreUndue k n fs ls) d
+    (subst (λ (e : List MapEntry). AreUndue k n e xs) c
+    (subst (λ (o : MapMeaning). AreUndue k o es xs) b
+    (subst (λ (i : ℕ). AreUndue i m es xs) a u)))
+
+pub undue_carried : (a b : DiskState) (store : List ℕ) (entries : List MapEntry) (logs : List (List BoxEntry)) → Opens (files_of a) store entries logs → CarriesAll a b → HasNoLogDue a → HasNoLogDue b
+undue_carried a b store entries logs o carry none = λ other es ls p.
+    let again = opens_along store entries logs (files_of a) (files_of b) o (carry store entries logs o) in
+    let e = one_store (files_of b) store other entries es logs ls again.0 p in
+    let g = root_same (files_of b) store other again.0.passed.map_log.generation p.passed.map_log.generation again.0.passed.map_log.root p.passed.map_log.root in
+    same_undue _ _ (map_meaning store entries) (map_meaning other es) entries es logs ls (sym again.1 ∙ g.1) (cc (e.0, e.1)) e.1 e.2 (none store entries logs o)

@@ -45,7 +45,7 @@ same_map store entries a b h e = record {
 all_there : (store : List ℕ) (entries : List MapEntry) (logs : List (List BoxEntry)) (a : Files) → Opens a store entries logs → HasAll a (map_meaning store entries) []
 all_there store entries logs a o = record { counts = λ guid. omega arith; regions = o.regions; instances = o.instances }
 
-opens_along : (store : List ℕ) (entries : List MapEntry) (logs : List (List BoxEntry)) (a b : Files) → (o : Opens a store entries logs) → CarryOver o.passed.map_log.generation (map_meaning store entries) a b
+pub opens_along : (store : List ℕ) (entries : List MapEntry) (logs : List (List BoxEntry)) (a b : Files) → (o : Opens a store entries logs) → CarryOver o.passed.map_log.generation (map_meaning store entries) a b
     → (p : Opens b store entries logs) × (p.passed.map_log.generation ≡ o.passed.map_log.generation)
 unfolding same_map
 opens_along store entries logs a b o e =

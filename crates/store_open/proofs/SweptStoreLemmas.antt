@@ -1,6 +1,6 @@
 -- What an opening leaves of a disk, and what it shows.
 use Rattle.std.proofs.Common.{◌≡◌, ℕ, List, map, Option, Some, None, refl, sym, ◌∙◌, subst}
-use Rattle.disk_model.specs.Disk.{DiskState, History, IfTold, EachImage, SameState, IsIdle}
+use Rattle.disk_model.specs.Disk.{Between, DiskState, History, IfTold, EachImage, SameState, IsIdle}
 use Rattle.disk_model.proofs.MomentLemmas.{each_image-then}
 use Rattle.mdbox_base.specs.declared.entries.BoxEntry.{BoxEntry}
 use Rattle.mdbox_base.specs.declared.entries.MapEntry.{MapEntry}
@@ -15,13 +15,13 @@ use Rattle.model_store.specs.Safe.{Safe}
 use Rattle.model_store.specs.Settled.{files_of, IsSettled, IsSettledFor}
 use Rattle.model_store.proofs.SettledLemmas.{settled_safe}
 use Rattle.disk_model.proofs.IdleLemmas.{same_state-back, idle-images, idle-between}
-use Rattle.disk_model.proofs.BetweenLemmas.{same-between, between-if}
+use Rattle.disk_model.proofs.BetweenLemmas.{same-between, between-if, between-map}
 use Rattle.model_store.specs.Carrying.{CarryOver}
 use Rattle.model_store.proofs.CarryingLemmas.{each_name}
 use Rattle.model_store.proofs.StandsLemmas.{root_same}
 use Rattle.store_sweep.specs.Swept.{FilesCarry, IsSwept}
 use Rattle.store_sweep.proofs.HeldStoreLemmas.{reads_opened}
-use Rattle.store_open.specs.Opened.{StoreCarries}
+use Rattle.store_open.specs.Opened.{CarriesAll, CarriesOpened, StoreCarries}
 use Rattle.store_open.proofs.CheckedLemmas.{OpensAt}
 use Rattle.store_open.proofs.StillOpensLemmas.{carries_own}
 
@@ -64,8 +64,16 @@ carry_self disk store entries logs o =
     let m : MapMeaning = map_meaning store entries in
     each_name g m (files_of disk) (files_of disk) (reads_opened g m disk (record { store = store; entries = entries; logs = logs; opens = o; generation_is = refl; map_is = refl }))
 
+pub all-idle : (old new : Option History) → IsIdle old new → Between CarriesAll old new
+all-idle old new idle = idle-between _ old new idle (λ disk. carry_self disk)
+
+-- then they open again, with the same logs
+pub all_opened : (old new : Option History) → Between CarriesAll old new → StoreCarries old new
+all_opened old new all =
+    between-map CarriesAll CarriesOpened old new (λ a b carry. record { again = λ store entries logs o. carries_own store entries logs (files_of a) (files_of b) o (carry store entries logs o); undue = λ none. carry }) all
+
 pub carries-idle : (old new : Option History) → IsIdle old new → StoreCarries old new
-carries-idle old new idle = idle-between _ old new idle (λ disk store entries logs o. carries_own store entries logs (files_of disk) (files_of disk) o (carry_self disk store entries logs o))
+carries-idle old new idle = all_opened old new (all-idle old new idle)
 
 -- the store that was opened is the one that the files open with
 carry_one : (generation : ℕ) (m : MapMeaning) (store : List ℕ) (entries : List MapEntry) (logs : List (List BoxEntry)) (a b : DiskState) → m ≡ map_meaning store entries → CarryOver generation m (files_of a) (files_of b) → OpensAt store generation entries logs a
@@ -77,10 +85,9 @@ carry_one generation m store entries logs a b is carry at other es ls o =
     let means : m ≡ map_meaning other es = cc (is, e.0, e.1) in
     subst (λ (n : ℕ). F n (map_meaning other es)) (sym at.1 ∙ g.1) (subst (F generation) means carry)
 
-pub carries-swept : (generation : ℕ) (m : MapMeaning) (store : List ℕ) (entries : List MapEntry) (logs : List (List BoxEntry)) (old now new : Option History) → SameState old now → m ≡ map_meaning store entries → IfTold now (OpensAt store generation entries logs) → FilesCarry generation m now new → StoreCarries old new
-carries-swept generation m store entries logs old now new same is opens carry =
-    between-if (λ a b. CarryOver generation m (files_of a) (files_of b)) _ (OpensAt store generation entries logs) old new
-    (λ a b c at other es ls o. carries_own other es ls (files_of a) (files_of b) o (carry_one generation m store entries logs a b is c at other es ls o))
+pub all-swept : (generation : ℕ) (m : MapMeaning) (store : List ℕ) (entries : List MapEntry) (logs : List (List BoxEntry)) (old now new : Option History) → SameState old now → m ≡ map_meaning store entries → IfTold now (OpensAt store generation entries logs) → FilesCarry generation m now new → Between CarriesAll old new
+all-swept generation m store entries logs old now new same is opens carry =
+    between-if (λ a b. CarryOver generation m (files_of a) (files_of b)) CarriesAll (OpensAt store generation entries logs) old new (λ a b c at. carry_one generation m store entries logs a b is c at)
     (reads_since generation m old now new same carry) (same_state-back (OpensAt store generation entries logs) old now same opens)
 
 -- ---- what is shown

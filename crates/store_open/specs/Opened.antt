@@ -14,6 +14,7 @@ use Rattle.model_meaning.specs.BoxMeaning.{BoxMeaning, box_meaning}
 use Rattle.model_meaning.specs.MapMeaning.{MapBox, MapMeaning, map_meaning}
 use Rattle.model_meaning.specs.SameMeaning.{MeansSame}
 use Rattle.model_rewritten.specs.CarriedStore.{CarriesStore}
+use Rattle.model_store.specs.Carrying.{CarryOver}
 use Rattle.model_store.specs.Settled.{files_of}
 use Rattle.model_store.specs.GoodLogs.{AreGoodLogs}
 use Rattle.model_store.specs.Opening.{HasNoEntry, Opens, IsDamaged}
@@ -37,9 +38,31 @@ pub record IsOpenedAs (old : Option History) (m : MapMeaning) (meanings : List B
   pub means : MeansSame (map_meaning m.store entries) m
   pub meanings_are : meanings ≡ map box_meaning logs
 
+-- the log of a mailbox with these entries isn't due to be written anew
+abbrev pub IsBoxUndue : MapBox → List BoxEntry → Type 0
+IsBoxUndue box log = is_log_due (length log) (needs_of_box (box_meaning log)) box.generation ≡ false
+
+-- Neither the map log of this generation, whose entries mean this, nor the log of a mailbox is due to be written anew.
+pub record AreUndue (generation : ℕ) (m : MapMeaning) (entries : List MapEntry) (logs : List (List BoxEntry)) : Type 0 where
+  pub map_log : is_log_due (length entries) (needs_of_map m) generation ≡ false
+  pub boxes : AllZip IsBoxUndue m.boxes logs
+
+-- No log of the store with which the files open, if they do, is due to be written anew.
+abbrev pub HasNoLogDue : DiskState → Type 0
+HasNoLogDue disk = (store : List ℕ) (entries : List MapEntry) (logs : List (List BoxEntry)) (o : Opens (files_of disk) store entries logs) → AreUndue o.passed.map_log.generation (map_meaning store entries) entries logs
+
+-- Whatever store the files open with, they carry over all that it reads: each log has the same entries.
+abbrev pub CarriesAll : DiskState → DiskState → Type 0
+CarriesAll old new = (store : List ℕ) (entries : List MapEntry) (logs : List (List BoxEntry)) (o : Opens (files_of old) store entries logs) → CarryOver o.passed.map_log.generation (map_meaning store entries) (files_of old) (files_of new)
+
 -- Whatever store the files open with, they open again, with logs that mean the same but for generations, and with the same mail.
+-- Where no log was due to be written anew, they carry over all that the store reads.
+pub record CarriesOpened (old new : DiskState) : Type 0 where
+  pub again : (store : List ℕ) (entries : List MapEntry) (logs : List (List BoxEntry)) → Opens (files_of old) store entries logs → CarriesStore store entries logs (files_of old) (files_of new)
+  pub undue : HasNoLogDue old → CarriesAll old new
+
 abbrev pub StoreCarries : Option History → Option History → Type 0
-StoreCarries = Between (λ old new. (store : List ℕ) (entries : List MapEntry) (logs : List (List BoxEntry)) → Opens (files_of old) store entries logs → CarriesStore store entries logs (files_of old) (files_of new))
+StoreCarries = Between CarriesOpened
 
 -- Whatever store the files open with, its storage files and instances stay at each moment.
 abbrev pub KeepsOpenedMail : Option History → Option History → Type 0
@@ -53,10 +76,6 @@ pub record IsClosedLog (octets : Option (List ℕ)) : Type 0 where
   pub entries_fit : All EntryFits entries
   pub is : octets ≡ Some (log_text head entries)
 
--- the log of a mailbox with these entries isn't due to be written anew
-abbrev pub IsBoxUndue : MapBox → List BoxEntry → Type 0
-IsBoxUndue box log = is_log_due (length log) (needs_of_box (box_meaning log)) box.generation ≡ false
-
 -- The files open, each log in force ends in a closed gate and isn't due to be written anew, and beside the logs nothing is to be
 -- swept.
 pub record IsClosedWell (disk : DiskState) : Type 0 where
@@ -67,8 +86,7 @@ pub record IsClosedWell (disk : DiskState) : Type 0 where
   pub root_log : IsClosedLog (reading (disk file.Root))
   pub map_log : IsClosedLog (reading (disk (file.Map opens.passed.map_log.generation)))
   pub box_logs : All (λ box. IsClosedLog (reading (disk (file.Box box.number box.generation)))) (map_meaning store entries).boxes
-  pub undue_map : is_log_due (length entries) (needs_of_map (map_meaning store entries)) opens.passed.map_log.generation ≡ false
-  pub undue_boxes : AllZip IsBoxUndue (map_meaning store entries).boxes logs
+  pub undue : HasNoLogDue disk
   pub nothing : HasNothingToSweep opens.passed.map_log.generation (map_meaning store entries) disk
 
 -- Why a store was not opened: its root log has no entry; or its files are damaged, and this is the place; or the device

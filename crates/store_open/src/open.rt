@@ -1,6 +1,6 @@
 // Opening a store.
 ghost use Rattle.std.specs.Prelude.{◌≡◌, ◌≤◌, false, [], ℕ, length, Ok, IfOk, IfErr, IsErrOf};
-ghost use Rattle.disk_model.specs.Disk.{EachImage, IfTold, IsIdle};
+ghost use Rattle.disk_model.specs.Disk.{Between, EachImage, IfTold, IsIdle};
 ghost use Rattle.disk_model.specs.declared.name.FileName.TheVariants as file;
 ghost use Rattle.disk_model.specs.FaultCounts.{NoFault, AnyFaultCounted, ChangeFaultCounted};
 ghost use Rattle.model_lists.specs.Lists.{Lists};
@@ -14,7 +14,7 @@ ghost use Rattle.store_files.specs.Found.{IsFoundFiles};
 ghost use Rattle.store_instances.specs.FoundInstances.{IsFoundInstances};
 ghost use Rattle.box_snapshot.specs.Due.{NoLogDue};
 ghost use Rattle.store_open.specs.Making.{IdleUnless};
-ghost use Rattle.store_open.specs.Opened.{Opening, IsOpenedAs, StoreCarries, KeepsOpenedMail, IsClosedWell, IsOpeningError, IsFaulted, disk_of};
+ghost use Rattle.store_open.specs.Opened.{Opening, IsOpenedAs, CarriesAll, StoreCarries, KeepsOpenedMail, IsClosedWell, HasNoLogDue, IsOpeningError, IsFaulted, disk_of};
 ghost use Rattle.store_open.specs.Rewritten.{WritesDueLogs};
 ghost use Rattle.store_sweep.specs.Moments.{NoFailedChange, IdleIf};
 ghost use Rattle.store_sweep.specs.Swept.{IsSwept};
@@ -67,7 +67,7 @@ pub fn open_store<D: Disk>(alloc: Global, disk: D, lanes: u32) -> Result<Store<D
     ensures shows { IfOk result (λ store. (lists : Lists) → IsSettledFor lists (D.history disk) → ShowLists store.map.boxes (indexes_of store.boxes) lists) }
 
     // Whatever is answered, where no change failed a settled disk is settled for the same lists again, and of any disk the store
-    // opens again, with logs that mean the same and the same mail.
+    // opens again, with logs that mean the same and the same mail; where no log is due, with all that the store reads.
     ensures settled_again { NoFailedChange (IsFaulted result) (D.faults disk) (D.faults (disk_of result)) → (lists : Lists) → IsSettledFor lists (D.history disk) → IsSettledFor lists (D.history (disk_of result)) }
     ensures carried { NoFailedChange (IsFaulted result) (D.faults disk) (D.faults (disk_of result)) → StoreCarries (D.history disk) (D.history (disk_of result)) }
 
@@ -88,6 +88,9 @@ pub fn open_store<D: Disk>(alloc: Global, disk: D, lanes: u32) -> Result<Store<D
 
     // A refusal for another cause than a failing device or want of memory leaves the disk as it is.
     ensures idle { IfErr result (λ refused. (refused.error ≡ OpenError.DiskFault → ⊥) → (refused.error ≡ OpenError.NoMemory → ⊥) → IsIdle (D.history disk) (D.history refused.disk)) }
+
+    // Nor is anything changed out of memory, where no log of a store that opens is due.
+    ensures memory { IfErr result (λ refused. refused.error ≡ OpenError.NoMemory → IdleIf HasNoLogDue (D.history disk) (D.history refused.disk)) }
 
     // Whatever is answered, nothing changes where the files don't open.
     ensures untouched { IdleUnless Opening (D.history disk) (D.history (disk_of result)) }
@@ -144,7 +147,7 @@ fn open_logs<D: Disk>(alloc: Global, disk: &mut D) -> Result<OpenParts, OpenErro
     ensures opened { IfOk result (λ opened. IsOpenedAs (D.history disk.old) opened.logs.map.meaning (indexes_of opened.logs.boxes.items)) }
     ensures shows { IfOk result (λ opened. (lists : Lists) → IsSettledFor lists (D.history disk.old) → ShowLists opened.logs.map.meaning.boxes (indexes_of opened.logs.boxes.items) lists) }
     ensures settled_again { NoFailedChange (IsErrOf result OpenError.DiskFault) (D.faults disk.old) (D.faults disk.new) → (lists : Lists) → IsSettledFor lists (D.history disk.old) → IsSettledFor lists (D.history disk.new) }
-    ensures carried { NoFailedChange (IsErrOf result OpenError.DiskFault) (D.faults disk.old) (D.faults disk.new) → StoreCarries (D.history disk.old) (D.history disk.new) }
+    ensures carried { NoFailedChange (IsErrOf result OpenError.DiskFault) (D.faults disk.old) (D.faults disk.new) → Between CarriesAll (D.history disk.old) (D.history disk.new) }
     ensures swept { IfOk result (λ opened. (generation : ℕ) × (opened.logs.map_log.name ≡ file.Map generation) × IsSwept generation opened.logs.map.meaning (D.history disk.old) (D.history disk.new)) }
     ensures any_moment { (lists : Lists) → IsSettledFor lists (D.history disk.old) → EachImage (λ _ image. Safe image lists) (D.history disk.old) (D.history disk.new) }
     ensures mail_stays { KeepsOpenedMail (D.history disk.old) (D.history disk.new) }

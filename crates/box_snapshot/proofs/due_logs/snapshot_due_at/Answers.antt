@@ -1,4 +1,4 @@
-use Rattle.std.proofs.Common.{sym, ◌∙◌, ap}
+use Rattle.std.proofs.Common.{sym, ◌∙◌}
 use Rattle.std.proofs.lemmas.Bool.{true≢false}
 use Rattle.box_snapshot.proofs.DueLogsLemmas.{box_written, kept_written, none_due, shown_at, undue_next, undue_written}
 use Rattle.box_snapshot.proofs.RewritesLemmas.{rewrites_itself}

@@ -1,10 +1,9 @@
-use Rattle.std.specs.Prelude.{◌<◌, ◌≤◌}
-use Rattle.std.proofs.Common.{◌≡◌, ◌∙◌, ℕ, false, All, List, length, refl, sym, ap, subst, arith}
+use Rattle.std.specs.Prelude.{◌<◌}
+use Rattle.std.proofs.Common.{◌≡◌, ◌∙◌, ℕ, false, All, length, refl, sym, ap, subst, arith}
 use Rattle.model_meaning.specs.MapMeaning.{MapMeaning}
 use Rattle.store_core.specs.Value.{StoreValue}
-use Rattle.store_core.specs.declared.store.OpenBox.{OpenBox}
 use Rattle.box_snapshot.specs.Due.{is_box_due}
-use Rattle.box_snapshot.proofs.DueLogsLemmas.{all_undue, as_many_boxes, as_many_still, kept_then, runs_on}
+use Rattle.box_snapshot.proofs.DueLogsLemmas.{all_undue, as_many_boxes, as_many_still, kept_then, runs_on, unmade_still}
 use Rattle.box_snapshot.proofs.RewritesLemmas.{only_itself, only_then, rewrites_itself, rewrites_then}
 use Rattle.box_snapshot.proofs.due_logs.snapshot_due_boxes.Goals as goal
 
@@ -47,7 +46,7 @@ loop-place-preserved g c =
     record {
       rewrites = rewrites_then g.D.Disk.history c.args.store.now c.loop-place.store c.snapshot_due_at.new.store (g.met.D.Disk.reads_image c.loop-place.store.disk) was.runs was.rewrites did.rewrites;
       runs = runs_on c.snapshot_due_at.new.store.stopped (λ is. absurd (cc (did.stopped.1 is)));
-      unmade = ap (λ (s : StoreValue _). s.made) did.rewrites.same ∙ was.unmade;
+      unmade = unmade_still g.D.Disk.history c.loop-place.store c.snapshot_due_at.new.store did.rewrites was.unmade;
       many = was.many ∙ sym (as_many_still c.loop-place.store.map c.snapshot_due_at.new.store.map did.rewrites.means);
       undue = did.undue was.undue;
       kept = kept_then c.args.store.now c.loop-place.store c.snapshot_due_at.new.store was.kept did.kept;

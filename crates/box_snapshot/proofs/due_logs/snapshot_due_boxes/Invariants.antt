@@ -1,4 +1,4 @@
-use Rattle.std.proofs.Common.{◌≡◌, All, length, [], false, ℕ}
+use Rattle.std.proofs.Common.{◌≡◌, All, length, [], false}
 use Rattle.disk_model.specs.FaultCounts.{NoFault}
 use Rattle.box_snapshot.specs.Due.{AreUndueTo, KeepsUndue, is_box_due}
 use Rattle.box_snapshot.specs.Rewrites.{LeavesNoOldLogs, Rewrites}

@@ -1,9 +1,9 @@
-use Rattle.std.proofs.Common.{◌≡◌, ◌<◌, ◌≤◌, ◌+◌, ℕ, List, length, take, drop, ap, sym, ◌∙◌, subst, arith}
+use Rattle.std.proofs.Common.{◌≡◌, ◌+◌, ℕ, List, length, take, drop, ap, sym, ◌∙◌, subst, arith}
 use Rattle.mdbox_base.specs.declared.entries.MapEntry.{MapEntry}
 use Rattle.model_meaning.specs.MapMeaning.{MapMeaning}
 use Rattle.model_rewritten.specs.Rewriting.{map_snapshot}
 use Rattle.store_core.specs.MapDrafts.{AllMapFitBehind}
-use Rattle.box_snapshot.specs.Filled.{IsDraftFilled}
+use Rattle.box_snapshot.specs.MapFilled.{IsMapFilled}
 use Rattle.box_snapshot.proofs.MapFillLemmas.{filled_next, group_rewrites}
 use Rattle.box_snapshot.proofs.MapGroupLemmas.{IsNextGroup, group_next}
 use Rattle.box_snapshot.proofs.RewritesLemmas.{rewrites_itself}
@@ -59,5 +59,5 @@ returns-clause-filled g c =
     let all = map_snapshot v.map in
     let e = c.in_ok-extend_map.ensures in
     let next = next_group v.map c.map.result.now.meaning c.in_ok-group.group c.args.from c.map.ensures (group_next v.map all c.args.from c.known_snapshot.ensures c.requires.within) c.in_ok-group.ensures.group in
-    subst (λ (n : ℕ). IsDraftFilled (g.D.Disk.history w.disk) (take (c.args.from + n) all) c.extend_map.new.draft w) (sym c.length.ensures)
+    subst (λ (n : ℕ). IsMapFilled (g.D.Disk.history w.disk) (take (c.args.from + n) all) c.extend_map.new.draft w) (sym c.length.ensures)
     (filled_next (g.D.Disk.history v.disk) (g.D.Disk.history w.disk) v w c.args.draft.now c.extend_map.new.draft all c.args.from c.in_ok-group.group c.requires.filled next e.same e.draft e.number e.taken e.added e.counted e.others)

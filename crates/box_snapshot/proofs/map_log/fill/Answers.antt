@@ -1,8 +1,8 @@
-use Rattle.std.proofs.Common.{◌≡◌, ◌≤◌, ℕ, length, take, refl, subst, ◌∙◌, arith, Ok}
+use Rattle.std.proofs.Common.{◌≡◌, ◌≤◌, length, take, refl, subst, ◌∙◌, arith, Ok}
 use Rattle.model_meaning.specs.MapMeaning.{MapMeaning}
 use Rattle.model_rewritten.specs.Rewriting.{map_snapshot}
 use Rattle.store_core.specs.declared.error.StepError.TheVariants as step_error
-use Rattle.box_snapshot.specs.Filled.{IsDraftFilled}
+use Rattle.box_snapshot.specs.MapFilled.{IsMapFilled}
 use Rattle.box_snapshot.proofs.MapFillLemmas.{no_error, others_itself, others_then, runs_if_ok, same_map, value_then}
 use Rattle.box_snapshot.proofs.RewritesLemmas.{rewrites_itself, rewrites_then}
 use Rattle.box_snapshot.proofs.map_log.fill.Goals as goal
@@ -35,7 +35,7 @@ loop-from-preserved g c =
     let map_same : now.map ≡ v.map = same_map v now i.same in
     record {
       within = subst (λ (m : MapMeaning). c.in_ok-from.from ≤ length (map_snapshot m)) map_same e.further.1;
-      filled = subst (λ (m : MapMeaning). IsDraftFilled (H w.disk) (take c.in_ok-from.from (map_snapshot m)) c.add_group.new.draft w) map_same e.filled;
+      filled = subst (λ (m : MapMeaning). IsMapFilled (H w.disk) (take c.in_ok-from.from (map_snapshot m)) c.add_group.new.draft w) map_same e.filled;
       rewrites = rewrites_then H v now w (g.met.D.Disk.reads_image now.disk) i.running i.rewrites e.rewrites;
       others = others_then (H v.disk) (H now.disk) (H w.disk) v now c.args.draft.now c.loop-from.draft c.requires.filled.drafted i.filled.drafted i.number i.others e.others;
       number = e.number ∙ i.number;

@@ -2,7 +2,7 @@ use Rattle.std.proofs.Common.{◌≡◌, ◌≤◌, ◌-◌, false, length, take
 use Rattle.disk_model.specs.Disk.{SameButFor}
 use Rattle.disk_model.specs.FaultCounts.{NoFault}
 use Rattle.model_rewritten.specs.Rewriting.{map_snapshot}
-use Rattle.box_snapshot.specs.Filled.{IsDraftFilled}
+use Rattle.box_snapshot.specs.MapFilled.{IsMapFilled}
 use Rattle.box_snapshot.specs.Rewrites.{Rewrites}
 use Rattle.box_snapshot.proofs.RewritesLemmas.{LeavesValue}
 use Rattle.box_snapshot.proofs.map_log.fill.Given as goal
@@ -11,7 +11,7 @@ use Rattle.box_snapshot.proofs.map_log.fill.Given as goal
 abbrev pub invariant-loop-from : goal.invariant-loop-from
 invariant-loop-from g l = record {
   within : l.from ≤ length (map_snapshot l.fn.store.map);
-  filled : IsDraftFilled (g.D.Disk.history l.store.disk) (take l.from (map_snapshot l.fn.store.map)) l.draft l.store;
+  filled : IsMapFilled (g.D.Disk.history l.store.disk) (take l.from (map_snapshot l.fn.store.map)) l.draft l.store;
   rewrites : Rewrites g.D.Disk.history l.fn.store l.store;
   others : SameButFor l.fn.draft.log.name (g.D.Disk.history l.fn.store.disk) (g.D.Disk.history l.store.disk);
   number : l.draft.generation ≡ l.fn.draft.generation;

@@ -12,7 +12,7 @@ returns-in_default-clause-refused g c = unopened_still (g.D.Disk.history c.args.
 pub returns-in-Err-clause-refused : goal.returns-in-Err-clause-refused
 returns-in-Err-clause-refused g c =
     let o = c.in-Err.ensures in
-    record { cause = o.refused; idle = o.idle; untouched = o.untouched; stays = o.mail_stays; closed_well = o.closed_well; moments = o.any_moment; settled_again = o.settled_again; carried = o.carried; fault = o.fault; unfailed = o.unfailed }
+    record { cause = o.refused; idle = o.idle; memory = o.memory; untouched = o.untouched; stays = o.mail_stays; closed_well = o.closed_well; moments = o.any_moment; settled_again = o.settled_again; carried = o.carried; fault = o.fault; unfailed = o.unfailed }
 
 pub of-requires-in-Ok-open_store-clause-unused : goal.of-requires-in-Ok-open_store-clause-unused
 of-requires-in-Ok-open_store-clause-unused g c =
@@ -28,6 +28,7 @@ of-requires-in-Ok-open_store-clause-unused g c =
             files = o.files;
             instances = o.instances;
             running = o.state.1;
+            undue = o.undue;
             safe = o.any_moment;
             settled_again = o.settled_again (λ f. absurd f);
             carried = o.carried (λ f. absurd f);
@@ -53,6 +54,7 @@ returns-in-Ok-open_store-clause-opened g c =
       files = o.files;
       instances = o.instances;
       running = o.state.1;
+      undue = o.undue;
       safe = o.any_moment;
       settled_again = o.settled_again (λ f. absurd f);
       carried = o.carried (λ f. absurd f);

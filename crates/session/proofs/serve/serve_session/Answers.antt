@@ -25,6 +25,7 @@ of-world-requires-clause-unused g c =
             files = o.files;
             instances = o.instances;
             running = o.state.1;
+            undue = o.undue;
             safe = o.any_moment;
             settled_again = o.settled_again (λ f. absurd f);
             carried = o.carried (λ f. absurd f);
@@ -59,6 +60,7 @@ returns-in-Ok-open_store-clause-done g c =
       files = o.files;
       instances = o.instances;
       running = o.state.1;
+      undue = o.undue;
       safe = o.any_moment;
       settled_again = o.settled_again (λ f. absurd f);
       carried = o.carried (λ f. absurd f);
@@ -77,4 +79,4 @@ returns-in-Ok-open_store-clause-done g c =
 pub returns-in-Err-clause-refused : goal.returns-in-Err-clause-refused
 returns-in-Err-clause-refused g c =
     let o = c.in-Err.ensures in
-    record { cause = o.refused; idle = o.idle; untouched = o.untouched; stays = o.mail_stays; closed_well = o.closed_well; moments = o.any_moment; settled_again = o.settled_again; carried = o.carried; fault = o.fault; unfailed = o.unfailed }
+    record { cause = o.refused; idle = o.idle; memory = o.memory; untouched = o.untouched; stays = o.mail_stays; closed_well = o.closed_well; moments = o.any_moment; settled_again = o.settled_again; carried = o.carried; fault = o.fault; unfailed = o.unfailed }

@@ -13,7 +13,7 @@ use Rattle.store_open.proofs.CheckedLemmas.{stands_found, names_are, all_stand, 
 use Rattle.store_open.proofs.FoundFileLemmas.{has_files, found_on, found_back}
 use Rattle.store_open.proofs.FoundInstanceLemmas.{instances_opened, found_as, only_found}
 use Rattle.store_open.proofs.OpenStoreLemmas.{indexes_are, opened_store, opened_as, id_is, room_is, store_is}
-use Rattle.store_open.proofs.SweptStoreLemmas.{idle_settled, idle_safe, swept_safe, swept_since, carries-idle, carries-swept, shown}
+use Rattle.store_open.proofs.SweptStoreLemmas.{idle_settled, idle_safe, swept_safe, swept_since, all-idle, all-swept, shown}
 use Rattle.store_open.proofs.FaultLemmas.{fault_is, none_swept}
 use Rattle.model_kept.proofs.KeptLemmas.{kept_idle, kept_then}
 use Rattle.store_sweep.proofs.IdleSweepLemmas.{idle_if}
@@ -182,19 +182,19 @@ pub returns-clause-settled_again : goal.returns-clause-settled_again
 returns-clause-settled_again g c = λ none lists s. c.in_ok-logs.ensures.settled_again (λ fault. absurd (false≢true fault)) lists (idle_settled lists _ _ (idle-then _ _ _ c.in_ok-checked.ensures.idle c.in_ok-files.ensures.idle) s)
 
 pub returns-in_err-checked-clause-carried : goal.returns-in_err-checked-clause-carried
-returns-in_err-checked-clause-carried g c = λ none. carries-idle _ _ c.in_err-checked.ensures.idle
+returns-in_err-checked-clause-carried g c = λ none. all-idle _ _ c.in_err-checked.ensures.idle
 
 pub returns-in_err-boxes-clause-carried : goal.returns-in_err-boxes-clause-carried
-returns-in_err-boxes-clause-carried g c = λ none. carries-idle _ _ c.in_ok-checked.ensures.idle
+returns-in_err-boxes-clause-carried g c = λ none. all-idle _ _ c.in_ok-checked.ensures.idle
 
 pub returns-in_err-room-clause-carried : goal.returns-in_err-room-clause-carried
-returns-in_err-room-clause-carried g c = λ none. carries-idle _ _ c.in_ok-checked.ensures.idle
+returns-in_err-room-clause-carried g c = λ none. all-idle _ _ c.in_ok-checked.ensures.idle
 
 pub returns-in_err-instances-clause-carried : goal.returns-in_err-instances-clause-carried
-returns-in_err-instances-clause-carried g c = λ none. carries-idle _ _ c.in_ok-checked.ensures.idle
+returns-in_err-instances-clause-carried g c = λ none. all-idle _ _ c.in_ok-checked.ensures.idle
 
 pub returns-in_err-files-clause-carried : goal.returns-in_err-files-clause-carried
-returns-in_err-files-clause-carried g c = λ none. carries-idle _ _ (idle-then _ _ _ c.in_ok-checked.ensures.idle c.in_err-files.ensures.idle)
+returns-in_err-files-clause-carried g c = λ none. all-idle _ _ (idle-then _ _ _ c.in_ok-checked.ensures.idle c.in_err-files.ensures.idle)
 
 pub returns-in_err-logs-clause-carried : goal.returns-in_err-logs-clause-carried
 returns-in_err-logs-clause-carried g c = λ none.
@@ -202,7 +202,7 @@ returns-in_err-logs-clause-carried g c = λ none.
     let s = checked_since c.in_ok-checked.checked k.0 k.1 k.2 _ _ _ c.in_ok-files.ensures.idle k.3 in
     let idle = idle-then _ _ _ c.in_ok-checked.ensures.idle c.in_ok-files.ensures.idle in
     let quiet = no_fault-then (g.D.Disk.faults c.args.disk.now) (g.D.Disk.faults c.check_store.new.disk) (g.D.Disk.faults c.find_files.new.disk) (c.in_ok-checked.ensures.unfailed (λ e. cc e)) (c.in_ok-files.ensures.unfailed (λ e. cc e)) in
-    carries-swept c.in_ok-checked.checked.generation c.in_ok-checked.checked.map.meaning c.in_ok-checked.checked.id.0 k.1 k.2 _ _ _ idle.same k.3.map_is (opens_at c.in_ok-checked.checked k.0 k.1 k.2 _ _ idle s)
+    all-swept c.in_ok-checked.checked.generation c.in_ok-checked.checked.map.meaning c.in_ok-checked.checked.id.0 k.1 k.2 _ _ _ idle.same k.3.map_is (opens_at c.in_ok-checked.checked k.0 k.1 k.2 _ _ idle s)
     (c.in_err-logs.ensures.carried
     (none_swept (g.D.Disk.faults c.args.disk.now) (g.D.Disk.faults c.find_files.new.disk) (g.D.Disk.faults c.sweep.new.disk) quiet (λ e. fault_is c.from_residual-in_err-logs.result c.from_residual-in_err-logs.ensures.1) none))
 
@@ -211,7 +211,7 @@ returns-clause-carried g c = λ none.
     let k = c.in_ok-checked.ensures.checked in
     let s = checked_since c.in_ok-checked.checked k.0 k.1 k.2 _ _ _ c.in_ok-files.ensures.idle k.3 in
     let idle = idle-then _ _ _ c.in_ok-checked.ensures.idle c.in_ok-files.ensures.idle in
-    carries-swept c.in_ok-checked.checked.generation c.in_ok-checked.checked.map.meaning c.in_ok-checked.checked.id.0 k.1 k.2 _ _ _ idle.same k.3.map_is (opens_at c.in_ok-checked.checked k.0 k.1 k.2 _ _ idle s) (c.in_ok-logs.ensures.carried (λ fault. absurd (false≢true fault)))
+    all-swept c.in_ok-checked.checked.generation c.in_ok-checked.checked.map.meaning c.in_ok-checked.checked.id.0 k.1 k.2 _ _ _ idle.same k.3.map_is (opens_at c.in_ok-checked.checked k.0 k.1 k.2 _ _ idle s) (c.in_ok-logs.ensures.carried (λ fault. absurd (false≢true fault)))
 
 -- files that don't open
 

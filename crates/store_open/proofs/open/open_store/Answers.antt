@@ -1,11 +1,12 @@
 use Rattle.std.proofs.Common.{List, sym, subst, ap}
 use Rattle.model_meaning.specs.BoxMeaning.{BoxMeaning}
 use Rattle.model_meaning.specs.MapMeaning.{map_meaning}
-use Rattle.store_open.proofs.DueLogLemmas.{carried_anew, closed_anew, files_anew, instances_anew, kept_anew, opened_anew, runs_on, safe_anew, settled_anew, shows_anew, swept_anew}
+use Rattle.store_open.proofs.DueLogLemmas.{carried_anew, closed_anew, files_anew, instances_anew, kept_anew, memory_anew, opened_anew, runs_on, safe_anew, settled_anew, shows_anew, swept_anew}
 use Rattle.store_open.proofs.FoundFileLemmas.{files_untaken}
 use Rattle.store_open.proofs.IdleUnlessLemmas.{has_it, opening}
-use Rattle.store_open.specs.Opened.{IsClosedWell, IsOpenedAs, Opening}
-use Rattle.store_sweep.proofs.IdleSweepLemmas.{idle_parts}
+use Rattle.store_open.proofs.SweptStoreLemmas.{all_opened}
+use Rattle.store_open.specs.Opened.{HasNoLogDue, IsClosedWell, IsOpenedAs, Opening}
+use Rattle.store_sweep.proofs.IdleSweepLemmas.{idle_if, idle_parts}
 use Rattle.store_open.proofs.open.open_store.Goals as goal
 
 pub of-requires-clause-untaken : goal.of-requires-clause-untaken
@@ -16,6 +17,12 @@ of-requires-clause-instances g c = c.in-Ok.ensures.known c.args.lanes c.requires
 
 pub returns-in-Err-clause-settled_again : goal.returns-in-Err-clause-settled_again
 returns-in-Err-clause-settled_again g c = λ none lists s. c.in-Err.ensures.settled_again (λ fault. none (cc fault)) lists s
+
+pub returns-in-Err-clause-carried : goal.returns-in-Err-clause-carried
+returns-in-Err-clause-carried g c = λ none. all_opened _ _ (c.in-Err.ensures.carried (λ fault. none (cc fault)))
+
+pub returns-in-Err-clause-memory : goal.returns-in-Err-clause-memory
+returns-in-Err-clause-memory g c = λ memory. idle_if HasNoLogDue _ _ (c.in-Err.ensures.idle (λ fault. cc (fault, memory)))
 
 -- the store
 
@@ -47,7 +54,7 @@ returns-in-Ok-clause-settled_again g c = λ none lists s.
 pub returns-in-Ok-clause-carried : goal.returns-in-Ok-clause-carried
 returns-in-Ok-clause-carried g c = λ none.
     carried_anew g.D.Disk.history c.of.result c.write_due_logs.result (g.D.Disk.history c.args.disk) c.rewritten_stores_are_safe.ensures.on c.write_due_logs.ensures.written (ap (λ s. s.stopped) c.of.ensures.store)
-    (runs_on g.D.Disk.history c.of.result c.write_due_logs.result (g.D.Disk.faults c.args.disk) (g.D.Disk.faults c.of.result.disk) _ c.write_due_logs.ensures.written (rw c.of.ensures.store (c.in-Ok.ensures.unfailed (λ e. cc e))) c.write_due_logs.ensures.fault none)
+    (runs_on g.D.Disk.history c.of.result c.write_due_logs.result (g.D.Disk.faults c.args.disk) (g.D.Disk.faults c.of.result.disk) _ c.write_due_logs.ensures.written (rw c.of.ensures.store (c.in-Ok.ensures.unfailed (λ e. cc e))) c.write_due_logs.ensures.fault none) c.write_due_logs.ensures.idle
     (rw c.of.ensures.store (c.in-Ok.ensures.carried (λ fault. absurd (cc fault))))
 
 -- at every moment
@@ -69,3 +76,9 @@ returns-in-Ok-clause-closed_well g c =
 
 pub returns-in-Ok-clause-untouched : goal.returns-in-Ok-clause-untouched
 returns-in-Ok-clause-untouched g c = let o = c.in-Ok.ensures.opened in has_it Opening (g.D.Disk.history c.args.disk) _ (opening _ _ o.entries o.logs o.opens)
+
+pub returns-in-Ok-clause-memory : goal.returns-in-Ok-clause-memory
+returns-in-Ok-clause-memory g c =
+    let o = c.in-Ok.ensures.opened in
+    memory_anew g.D.Disk.history c.of.result c.write_due_logs.result (g.D.Disk.history c.args.disk) c.in-Ok.field-0.logs.map.meaning.store o.entries o.logs c.write_due_logs.ensures.written (ap (λ s. s.stopped) c.of.ensures.store) c.write_due_logs.ensures.idle o.opens
+    (rw c.of.ensures.store (c.in-Ok.ensures.carried (λ fault. absurd (cc fault))))

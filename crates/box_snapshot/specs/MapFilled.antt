@@ -10,7 +10,7 @@ use Rattle.store_core.specs.Value.{StoreValue}
 use Rattle.box_snapshot.specs.Rewrites.{AreNamesSynced}
 
 -- The disk reads a draft of the map log with these entries, and all names are synced.
-pub record IsDraftFilled {D : Type 0} (history : Option History) (entries : List MapEntry) (draft : MapDraftValue) (store : StoreValue D) : Type 0 where
+pub record IsMapFilled {D : Type 0} (history : Option History) (entries : List MapEntry) (draft : MapDraftValue) (store : StoreValue D) : Type 0 where
   pub drafted : IsMapDraft history draft store
   pub means : draft.map.meaning ≡ map_meaning store.map.store entries
   pub reads : Drafts draft.log (map map_text entries) history
