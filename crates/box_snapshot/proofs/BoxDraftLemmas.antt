@@ -1,5 +1,5 @@
 -- A draft of a mailbox log that is made: it may be, and it has no entries.
-use Rattle.std.proofs.Common.{◌≡◌, ◌↔◌, ◌<◌, ◌≤◌, ◌+◌, ◌==◌, ℕ, Bool, true, false, List, [], find, length, Result, Ok, Err, IfOk, OnOk, Option, Some, All, refl, sym, ◌∙◌, ap, subst, arith}
+use Rattle.std.proofs.Common.{◌≡◌, ◌↔◌, ◌<◌, ◌+◌, ◌==◌, ℕ, true, false, [], Result, Ok, Err, IfOk, OnOk, Option, Some, refl, sym, ◌∙◌, ap, subst, arith}
 use Rattle.std.specs.Prelude.{IsErrOf, IsTrue, is_some}
 use Rattle.std.proofs.lemmas.Bool.{eq-eqb}
 use Rattle.std.proofs.lemmas.List.Elements.{All-contains, All-weaker}
@@ -14,7 +14,7 @@ use Rattle.model_kept.specs.Kept.{MailIsKept}
 use Rattle.model_lists.specs.Lists.{Lists}
 use Rattle.model_meaning.proofs.MapPlaceLemmas.{equal_is}
 use Rattle.model_meaning.specs.BoxMeaning.{BoxMeaning, box_meaning}
-use Rattle.model_meaning.specs.MapMeaning.{MapBox, MapMeaning, box_at}
+use Rattle.model_meaning.specs.MapMeaning.{MapBox, MapMeaning}
 use Rattle.model_meaning.specs.Sound.{IsSoundMapBox}
 use Rattle.model_octets.proofs.PairLemmas.{IsOnly}
 use Rattle.model_octets.proofs.SearchLemmas.{found_one}

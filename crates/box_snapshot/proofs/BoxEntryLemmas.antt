@@ -1,5 +1,5 @@
 -- The last message of a mailbox.
-use Rattle.std.proofs.Common.{◌≡◌, ◌<◌, ◌≤◌, ◌+◌, ℕ, zero, suc, List, [], ◌∷◌, length, slice_get, Option, Some, None, refl, sym, ◌∙◌, ap, arith}
+use Rattle.std.proofs.Common.{◌≡◌, ◌≤◌, ◌+◌, ℕ, zero, suc, List, [], ◌∷◌, length, slice_get, Some, ap, arith}
 use Rattle.box_index.specs.Row.{UidsRise}
 use Rattle.model_meaning.specs.BoxMeaning.{LogRow}
 use Rattle.model_rewritten.specs.Rewriting.{next_from}

@@ -1,5 +1,5 @@
 -- A draft of a mailbox log that is filled further.
-use Rattle.std.proofs.Common.{◌≡◌, ◌≢◌, ◌↔◌, ◌+◌, ◌++◌, [], ℕ, Bool, false, true, List, length, length-append, take, map, fold, Result, Ok, Err, OnOk, Option, Some, None, refl, sym, ◌∙◌, ap, subst}
+use Rattle.std.proofs.Common.{◌≡◌, ◌≢◌, ◌↔◌, ◌+◌, ◌++◌, [], ℕ, false, true, List, length, length-append, take, map, fold, Result, Ok, Err, OnOk, Option, Some, refl, sym, ◌∙◌, ap, subst}
 use Rattle.std.specs.Prelude.{IsErrOf}
 use Rattle.std.specs.Option.{option_map_or}
 use Rattle.std.proofs.lemmas.List.{map-append}
@@ -7,7 +7,7 @@ use Rattle.std.proofs.lemmas.Result.{on_ok_weaker}
 use Rattle.disk_model.proofs.BetweenLemmas.{between-then}
 use Rattle.disk_model.proofs.MomentLemmas.{if_told-map}
 use Rattle.disk_model.specs.Name.{IsLogName}
-use Rattle.disk_model.specs.Disk.{DiskState, History, Between, Grows, IfTold, SameButFor}
+use Rattle.disk_model.specs.Disk.{DiskState, History, Grows, IfTold, SameButFor}
 use Rattle.disk_model.specs.declared.name.FileName.{FileName}
 use Rattle.disk_model.specs.declared.name.FileName.TheVariants as file
 use Rattle.gate_log.specs.Log.{Drafts, IsLogDrafted}
@@ -15,7 +15,7 @@ use Rattle.mdbox_base.specs.declared.entries.BoxEntry.{BoxEntry}
 use Rattle.model_kept.specs.Kept.{MailIsKept}
 use Rattle.model_lists.specs.Lists.{Lists}
 use Rattle.model_logs.specs.Entries.{box_text}
-use Rattle.model_meaning.specs.BoxMeaning.{BoxMeaning, box_applied, box_meaning}
+use Rattle.model_meaning.specs.BoxMeaning.{BoxMeaning, box_applied}
 use Rattle.model_meaning.specs.MapMeaning.{MapMeaning}
 use Rattle.model_rewritten.specs.Rewriting.{box_snapshot}
 use Rattle.model_store.specs.Settled.{IsSettledFor, Leaves}
@@ -24,7 +24,7 @@ use Rattle.store_core.specs.Value.{StoreValue, list_numbered}
 use Rattle.store_core.specs.declared.error.StepError.{StepError}
 use Rattle.store_core.specs.declared.error.StepError.TheVariants as step_error
 use Rattle.box_snapshot.specs.BoxFilled.{IsBoxFilled, entries_anew}
-use Rattle.box_snapshot.specs.Rewrites.{AreNamesSynced, Rewrites, SyncsMailNames}
+use Rattle.box_snapshot.specs.Rewrites.{AreNamesSynced, Rewrites}
 use Rattle.box_snapshot.proofs.BoxGroupLemmas.{IsNextBoxGroup, means_more}
 use Rattle.box_snapshot.proofs.RewritesLemmas.{LeavesValue, call_rewrites, mail_beside, names_beside}
 

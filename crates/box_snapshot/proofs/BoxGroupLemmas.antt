@@ -10,7 +10,7 @@ use Rattle.model_logs.specs.Entries.{BoxInRange}
 use Rattle.model_meaning.proofs.BoxLemmas.{box_more}
 use Rattle.model_meaning.specs.BoxMeaning.{AllBoxFit, BoxMeaning, LogRow, box_applied, box_meaning, row_made}
 use Rattle.model_meaning.specs.MapMeaning.{MapMeaning}
-use Rattle.model_rewritten.specs.Rewriting.{IsRewrittenBox, box_snapshot, next_from, row_entry}
+use Rattle.model_rewritten.specs.Rewriting.{box_snapshot, next_from, row_entry}
 use Rattle.model_store.specs.Opening.{HasItsRecord}
 use Rattle.store_core.specs.Drafts.{AllFitBehind}
 use Rattle.box_snapshot.specs.BoxFilled.{CanBeRewritten}

@@ -1,5 +1,5 @@
 -- What a mailbox's log means in an open store, and the counts that a draft with the same meaning leaves.
-use Rattle.std.proofs.Common.{inl, inr, ◌≡◌, ◌≤◌, ◌+◌, ◌==◌, ℕ, Bool, List, [], ◌∷◌, length, map, Option, Some, None, All, refl, sym, ◌∙◌, ap, subst, arith, sum_by, count_by, if◌then◌else◌}
+use Rattle.std.proofs.Common.{inl, inr, ◌≡◌, ◌≤◌, ◌+◌, ◌==◌, ℕ, Bool, List, [], ◌∷◌, map, Option, Some, None, All, sym, ◌∙◌, ap, subst, arith, sum_by, count_by, if◌then◌else◌}
 use Rattle.std.proofs.lemmas.Bool.{cases_Bool}
 use Rattle.std.proofs.lemmas.List.Elements.{All-weaker}
 use Rattle.std.specs.List.{AllByRecursion}
@@ -16,7 +16,7 @@ use Rattle.model_store.specs.Opening.{AreBoxEntries, HasItsRecord, listed_of}
 use Rattle.store_core.proofs.BoxAppendLemmas.{store_sound}
 use Rattle.store_core.proofs.DueLemmas.{listed_meant}
 use Rattle.store_core.proofs.ReplacedLogLemmas.{meanings_stay}
-use Rattle.store_core.specs.Drafts.{BoxDraftValue, listed_with, meanings_with}
+use Rattle.store_core.specs.Drafts.{BoxDraftValue, listed_with}
 use Rattle.store_core.specs.Dues.{due_at, leak_at}
 use Rattle.store_core.specs.Running.{IsStore}
 use Rattle.store_core.specs.Value.{StoreValue, indexes_of, list_numbered}

@@ -1,13 +1,12 @@
 -- A draft with all entries of a mailbox's log, put in its place.
-use Rattle.std.proofs.Common.{inl, inr, ◌≡◌, ◌≢◌, ◌↔◌, ◌+◌, ◌==◌, ℕ, Bool, true, false, List, [], ◌∷◌, length, map, find, if◌then◌else◌, Result, Ok, Err, OnOk, Option, Some, None, All, refl, sym, ◌∙◌, ap, subst}
+use Rattle.std.proofs.Common.{inl, inr, ◌≡◌, ◌≢◌, ◌↔◌, ◌+◌, ◌==◌, ℕ, true, false, List, [], ◌∷◌, length, map, find, if◌then◌else◌, Result, Ok, Err, OnOk, Option, Some, None, All, refl, sym, ◌∙◌, ap, subst}
 use Rattle.std.specs.Prelude.{IsErrOf}
 use Rattle.std.specs.Option.{option_map}
-use Rattle.std.proofs.lemmas.Bool.{cases_Bool, cond-false, cond-true, eq-eqb, false≢true, true≢false}
-use Rattle.std.proofs.lemmas.List.Elements.{All-cons, All-contains, All-head, All-nil, All-tail}
+use Rattle.std.proofs.lemmas.Bool.{cases_Bool, cond-false, cond-true, eq-eqb, false≢true}
+use Rattle.std.proofs.lemmas.List.Elements.{All-cons, All-head, All-nil, All-tail}
 use Rattle.std.proofs.lemmas.Result.{on_ok_weaker}
-use Rattle.disk_model.proofs.NameLemmas.{same_name-apart, same_name-true}
 use Rattle.disk_model.specs.Disk.{Between, DiskState, FileState, Grows, History, IfTold, IsThere, named, no_file}
-use Rattle.disk_model.specs.Name.{IsLogName, same_name}
+use Rattle.disk_model.specs.Name.{IsLogName}
 use Rattle.disk_model.specs.declared.name.FileName.{FileName}
 use Rattle.disk_model.specs.declared.name.FileName.TheVariants as file
 use Rattle.gate_log.specs.Log.{Drafts, NamedButFor, Reads}
@@ -20,7 +19,6 @@ use Rattle.model_lists.specs.Lists.{Lists}
 use Rattle.model_logs.specs.Entries.{box_text}
 use Rattle.model_meaning.proofs.AppliedLemmas.{boxes_by_generation}
 use Rattle.model_meaning.proofs.MapPlaceLemmas.{equal_is}
-use Rattle.model_meaning.specs.BoxMeaning.{BoxMeaning}
 use Rattle.model_meaning.specs.MapMeaning.{MapBox, MapMeaning, box_at, box_changed, map_applied}
 use Rattle.model_meaning.specs.SameMeaning.{MeansSame}
 use Rattle.model_octets.proofs.PairLemmas.{IsOnly}
@@ -37,9 +35,10 @@ use Rattle.store_core.specs.declared.error.StepError.{StepError}
 use Rattle.store_core.specs.declared.error.StepError.TheVariants as step_error
 use Rattle.store_core.specs.declared.store.OpenBox.{OpenBox}
 use Rattle.box_snapshot.specs.BoxFilled.{IsBoxFilled, OnlyLogsBut, entries_anew}
-use Rattle.box_snapshot.specs.Rewrites.{AreNamesSynced, IsBoxWritten, OnlyLogsInForce, Rewrites, SyncsMailNames}
+use Rattle.box_snapshot.specs.Rewrites.{AreNamesSynced, IsBoxWritten, OnlyLogsInForce, Rewrites}
 use Rattle.box_snapshot.proofs.BoxFillLemmas.{anew_there, is_box_log}
 use Rattle.box_snapshot.proofs.DueLemmas.{IsOpenBox, open_in_map}
+use Rattle.box_snapshot.proofs.MapSnapshotLemmas.{done_if_running}
 use Rattle.box_snapshot.proofs.RewritesLemmas.{LeavesValue, mail_named_three, safe_always}
 
 -- ---- the mailbox
@@ -59,12 +58,6 @@ before_draft h v number generation s next = by_box (box_at v.map number) refl ne
 
 -- ---- what is so whatever it answers
 
--- a call that takes no memory did this, if the store isn't stopped
-box_done_if_running : {T : Type 0} (result : Result T StepError) (off : Bool) (P : Type 0) → IsErrOf result step_error.Stopped ↔ (off ≡ true) → (IsErrOf result step_error.NoMemory → ⊥) → OnOk result P → off ≡ false → P
-box_done_if_running (Ok x) off P stopped memory did runs = did
-box_done_if_running (Err step_error.Stopped) off P stopped memory did runs = absurd (true≢false (sym (stopped.0 refl) ∙ runs))
-box_done_if_running (Err step_error.NoMemory) off P stopped memory did runs = absurd (memory refl)
-
 pub box_switched_rewrites : {D T : Type 0} (history : D → Option History) (old new : StoreValue D) (draft : BoxDraftValue) (result : Result T StepError) (box : MapBox) → IsStore (history old.disk) old → IsBoxDraft (history old.disk) draft old
     → MeansSame old.map new.map → indexes_of new.boxes ≡ indexes_of old.boxes
     → new ≡ record old { disk = new.disk; map_log = new.map_log; map = new.map; boxes = new.boxes; stopped = new.stopped }
@@ -81,9 +74,9 @@ box_switched_rewrites history old new draft result box s d means indexes same li
       any_moment = λ lists is. safe_always lists (history old.disk) (history new.disk) (lists_stay lists is).0;
       mail_stays = stays;
       grows = grows;
-      settled = λ runs lists is. box_done_if_running result new.stopped _ stopped memory (lists_stay lists is).1 runs;
-      mail = λ runs. box_done_if_running result new.stopped _ stopped memory mail runs;
-      names = λ runs. inr (box_done_if_running result new.stopped _ stopped memory names runs);
+      settled = λ runs lists is. done_if_running result new.stopped _ stopped memory (lists_stay lists is).1 runs;
+      mail = λ runs. done_if_running result new.stopped _ stopped memory mail runs;
+      names = λ runs. inr (done_if_running result new.stopped _ stopped memory names runs);
     }
 
 -- ---- the log that was written

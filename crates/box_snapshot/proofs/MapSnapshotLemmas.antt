@@ -59,7 +59,7 @@ mail_if_switched : {T : Type 0} (root name own : FileName) (old new : Option His
 mail_if_switched root name own old new result first second third others = on_ok_weaker result (mail_named_three root name own old new first second third) others
 
 -- a call that takes no memory did this, if the store isn't stopped
-done_if_running : {T : Type 0} (result : Result T StepError) (off : Bool) (P : Type 0) → IsErrOf result step_error.Stopped ↔ (off ≡ true) → (IsErrOf result step_error.NoMemory → ⊥) → OnOk result P → off ≡ false → P
+pub done_if_running : {T : Type 0} (result : Result T StepError) (off : Bool) (P : Type 0) → IsErrOf result step_error.Stopped ↔ (off ≡ true) → (IsErrOf result step_error.NoMemory → ⊥) → OnOk result P → off ≡ false → P
 done_if_running (Ok x) off P stopped memory did runs = did
 done_if_running (Err step_error.Stopped) off P stopped memory did runs = absurd (true≢false (sym (stopped.0 refl) ∙ runs))
 done_if_running (Err step_error.NoMemory) off P stopped memory did runs = absurd (memory refl)

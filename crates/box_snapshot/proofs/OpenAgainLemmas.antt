@@ -1,5 +1,5 @@
 -- A store whose logs were written anew opens again, with logs that mean the same and the same mail.
-use Rattle.std.proofs.Common.{◌≡◌, inl, inr, ℕ, Bool, true, false, List, map, Option, Some, None, All, refl, sym, ◌∙◌, ap, subst}
+use Rattle.std.proofs.Common.{◌≡◌, inl, inr, ℕ, false, List, map, Option, Some, None, All, refl, sym, ◌∙◌, ap, subst}
 use Rattle.std.proofs.lemmas.Bool.{cases_Bool, cond-false, cond-true, false≢true}
 use Rattle.disk_model.proofs.BetweenLemmas.{between-map}
 use Rattle.disk_model.specs.Disk.{DiskState, FileState, History, Between, named, no_file, reading}

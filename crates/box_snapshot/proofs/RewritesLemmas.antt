@@ -1,5 +1,5 @@
 -- Logs that were written anew: of a store itself, one behind another, and of a call that leaves the store's value but for its disk.
-use Rattle.std.proofs.Common.{◌≡◌, ◌≢◌, ◌⊎◌, ◌↔◌, inl, inr, Bool, true, false, Result, Ok, Err, OnOk, Option, Some, None, refl, sym, ◌∙◌, ap, subst, arith}
+use Rattle.std.proofs.Common.{◌≡◌, ◌≢◌, ◌⊎◌, ◌↔◌, inl, inr, true, false, Result, Ok, Err, OnOk, Option, Some, None, refl, sym, ◌∙◌, ap, subst, arith}
 use Rattle.std.specs.Prelude.{IsErrOf}
 use Rattle.std.proofs.lemmas.Bool.{cases_Bool, cond-false, cond-true, true≢false}
 use Rattle.disk_model.proofs.BetweenLemmas.{between-begins, between-map, between-then}

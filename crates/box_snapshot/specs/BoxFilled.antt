@@ -28,10 +28,10 @@ abbrev pub entries_anew : {D : Type 0} → ℕ → StoreValue D → List BoxEntr
 entries_anew number store = option_map_or box_snapshot (list_numbered store number) []
 
 -- What a mailbox's log means can be written anew, and each message that it lists has its record.
-pub record CanBeRewritten (map_meaning : MapMeaning) (m : BoxMeaning) : Type 0 where
+pub record CanBeRewritten (mapped : MapMeaning) (m : BoxMeaning) : Type 0 where
   pub rewritten : IsRewrittenBox m (box_snapshot m)
   pub few : length (box_snapshot m) ≤ 1000001
-  pub records : All (HasItsRecord map_meaning) m.rows
+  pub records : All (HasItsRecord mapped) m.rows
 
 -- no log is there that the store doesn't need, but this one
 abbrev pub OnlyLogsBut : {D : Type 0} → FileName → StoreValue D → DiskState → Type 0

@@ -1,7 +1,6 @@
-use Rattle.std.proofs.Common.{◌≡◌, ◌≤◌, ◌+◌, length, sym, ◌∙◌, ap, arith, option_map}
+use Rattle.std.proofs.Common.{◌≤◌, ◌+◌, sym, ◌∙◌, ap, arith, option_map}
 use Rattle.std.specs.Option.{option_copied}
 use Rattle.box_index.specs.Row.{row_of}
-use Rattle.model_rewritten.specs.Rewriting.{next_from}
 use Rattle.box_snapshot.proofs.BoxEntryLemmas.{last_row}
 use Rattle.box_snapshot.proofs.box_entries.next_behind.Goals as goal
 

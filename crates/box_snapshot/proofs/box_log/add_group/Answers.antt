@@ -1,4 +1,4 @@
-use Rattle.std.proofs.Common.{◌≤◌, arith, sym, subst}
+use Rattle.std.proofs.Common.{arith, sym, subst}
 use Rattle.model_meaning.specs.BoxMeaning.{BoxMeaning}
 use Rattle.store_core.specs.Drafts.{AllFitBehind}
 use Rattle.store_core.specs.Value.{list_numbered}

@@ -1,8 +1,4 @@
-use Rattle.std.proofs.Common.{◌≡◌, ◌+◌, Some, ap, sym, ◌∙◌, refl, subst, arith, option_map}
-use Rattle.std.specs.Option.{IsSome}
-use Rattle.store_core.specs.Drafts.{IsNewer}
-use Rattle.std.specs.Prelude.{IsTrue, is_some}
-use Rattle.store_core.specs.Value.{list_numbered}
+use Rattle.std.proofs.Common.{◌≡◌, ◌+◌, Some, ap, sym, ◌∙◌, refl, arith, option_map}
 use Rattle.box_snapshot.proofs.BoxDraftLemmas.{box_filled_first, drafted_rewrites, due_in, listed_after, means_anew, newer_then}
 use Rattle.box_snapshot.proofs.MapFillLemmas.{runs_if_ok}
 use Rattle.box_snapshot.proofs.RewritesLemmas.{rewrites_then}

@@ -1,4 +1,4 @@
-use Rattle.std.proofs.Common.{◌≡◌, ◌<◌, ◌≤◌, ℕ, List, length, take, refl, sym, subst, ◌∙◌, ap, arith, Ok, option_map}
+use Rattle.std.proofs.Common.{◌<◌, ◌≤◌, List, length, take, refl, sym, subst, ◌∙◌, ap, arith, Ok, option_map}
 use Rattle.std.specs.Option.{option_copied}
 use Rattle.mdbox_base.specs.declared.entries.BoxEntry.{BoxEntry}
 use Rattle.store_core.specs.declared.error.StepError.TheVariants as step_error
