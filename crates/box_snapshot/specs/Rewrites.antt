@@ -64,6 +64,20 @@ pub record IsBoxWritten {D : Type 0} (number : ℕ) (history : Option History) (
   pub mapped : new.map ≡ map_applied (map_entry.G now.number now.log.head.generation) old.map
   pub gone : IfTold history (λ disk. disk (file.Box number before.log.head.generation) ≡ no_file)
 
+-- The log of the mailbox with this number was written anew, whatever became of the others.
+pub record IsLogAnew {D : Type 0} (number : ℕ) (old new : StoreValue D) : Type 0 where
+  pub before : OpenBox
+  pub now : OpenBox
+  pub found : find (λ b. b.number.0 == number) old.boxes ≡ Some before
+  pub found_now : find (λ b. b.number.0 == number) new.boxes ≡ Some now
+  pub generation : now.log.head.generation ≡ before.log.head.generation + 1
+  pub means : now.index.meaning ≡ before.index.meaning
+  pub count : now.log.count ≡ length (box_snapshot before.index.meaning)
+
+-- each mailbox is as it was, or its log was written anew, once
+abbrev pub WritesOnce : {D : Type 0} → StoreValue D → StoreValue D → Type 0
+WritesOnce old new = (number : ℕ) → (find (λ b. b.number.0 == number) new.boxes ≡ find (λ b. b.number.0 == number) old.boxes) ⊎ IsLogAnew number old new
+
 -- The map log was written anew: it is of the next generation, and has an entry for each mailbox, record and sealed file, and one for
 -- the highest numbers. The old log is removed.
 pub record IsMapWritten {D : Type 0} (history : Option History) (old new : StoreValue D) : Type 0 where
