@@ -4,6 +4,7 @@ pub mod ChangeTaskLemmas
 pub mod CopyRunLemmas
 pub mod CopyTaskLemmas
 pub mod DoneLemmas
+pub mod EndImageLemmas
 pub mod EndLemmas
 pub mod LeftLemmas
 pub mod MailStaysLemmas
