@@ -71,6 +71,7 @@ use Rattle.script_run.proofs.PurgeTaskLemmas.{IsPurgeTold, StandsPurge, begun_pu
 use Rattle.script_run.proofs.ResyncTaskLemmas.{IsResyncTold, StandsResync, begun_resync, keeps_resync}
 use Rattle.script_run.proofs.RunBeginsLemmas.{at_opening, before_opening, beginning, first_come, opening_begins}
 use Rattle.script_run.proofs.SealedLemmas.{HasKeptSealed, keeps_sealed, sealed_first, sealed_on}
+use Rattle.script_run.proofs.ReopenedLemmas.{opens_on_left}
 use Rattle.script_run.proofs.ShownLemmas.{LogsShow, carried_safe, opened_logs_show, opens_again}
 use Rattle.script_run.proofs.SomeListsLemmas.{some_lists}
 
@@ -583,6 +584,7 @@ script_done script old mid new first last s world ended r =
           shows = λ lists shows may. (serves_run script old mid new first last s ended l g.0 g.1 lists shows may).1;
           means = λ lists shows may. refl;
           again = λ unstopped. opens_again new ended.store r.later (stopped_by script old mid new first last s ended l g.0 g.1 unstopped);
+          reopens = λ lists shows may at. let was = (serves_run script old mid new first last s ended l g.0 g.1 lists shows may).0 in opens_on_left lists was.journal was.broken new r.show (was.reads at);
           alike = alike_alone script old mid new first last s world ended r g.0 g.1;
           made = made_alone script old mid new first last s world ended r g.0 g.1;
           resynced = resynced_alone script old mid new first last s world ended r g.0 g.1;

@@ -20,6 +20,7 @@ pub mod ReachedLemmas
 pub mod ReachedMakeLemmas
 pub mod ReachedMoveLemmas
 pub mod ReachedSaveLemmas
+pub mod ReopenedLemmas
 pub mod ResyncTaskLemmas
 pub mod RunBeginsLemmas
 pub mod SealedLemmas
