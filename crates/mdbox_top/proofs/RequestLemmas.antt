@@ -27,6 +27,7 @@ use Rattle.request_text.specs.declared.outcome.InputRefusal.{InputRefusal}
 use Rattle.request_text.specs.declared.outcome.StoreRefusal.{StoreRefusal}
 use Rattle.request_text.specs.declared.outcome.Outcome.{Outcome}
 use Rattle.request_text.specs.declared.outcome.Outcome.TheVariants as outcome
+use Rattle.script_run.proofs.DoneLemmas.{settled_safe as safe_settled}
 use Rattle.script_run.specs.Opening.{IsUnopened}
 use Rattle.mdbox_top.specs.InputRun.{IsOneOf}
 use Rattle.mdbox_top.specs.OpeningOutcome.{opening_outcome}
@@ -162,6 +163,7 @@ lacking why old new f g other u = record {
   stays = u.stays;
   closed_well = u.closed_well;
   moments = u.moments;
+  safe = u.safe;
   settled_again = λ none. u.settled_again (λ fault. absurd (other fault));
   carried = λ none. u.carried (λ fault. absurd (other fault));
   fault = record { reads = u.fault.reads; changes = u.fault.changes; rose = λ e. absurd (cc e) };
@@ -215,6 +217,7 @@ still_unopened old f = record {
   stays = λ store entries logs opens. kept_begins (map_meaning store entries) old;
   closed_well = if_told-all (λ disk. IsClosedWell disk → IsIdle old old) old (λ disk well. idle-begins old);
   moments = λ lists s. still_safe lists old s;
+  safe = λ lists s. safe_settled lists old s;
   settled_again = λ none lists s. s;
   carried = λ none. carries-idle old old (idle-begins old);
   fault = record { reads = omega arith; changes = omega arith; rose = λ e. absurd (cc e) };
