@@ -82,13 +82,16 @@ box_switched_rewrites history old new draft result box s d means indexes same li
 -- ---- the log that was written
 
 pub box_written_anew : {D : Type 0} (old now : Option History) (v w : StoreValue D) (mailbox : BoxNo) (draft : BoxDraftValue) → (o : IsOpenBox mailbox.0 v.map.boxes v.boxes) → o.box.generation + 1 ≡ draft.generation → IsBoxFilled old (entries_anew mailbox.0 v) draft v → draft.number ≡ mailbox
-    → list_numbered v mailbox.0 ≡ Some draft.index.meaning → w.boxes ≡ boxes_with draft v.boxes → ((texts : List (List ℕ)) → Drafts draft.log texts old → Reads draft.log texts now) → IsBoxWritten mailbox.0 now v w
-box_written_anew old now v w mailbox draft o next f number means boxes reads =
+    → list_numbered v mailbox.0 ≡ Some draft.index.meaning → w.boxes ≡ boxes_with draft v.boxes → ((texts : List (List ℕ)) → Drafts draft.log texts old → Reads draft.log texts now)
+    → w.map ≡ map_applied (map_entry.G draft.number draft.generation) v.map → IfTold now (λ disk. disk (file.Box o.box.number o.box.generation) ≡ no_file) → IsBoxWritten mailbox.0 now v w
+box_written_anew old now v w mailbox draft o next f number means boxes reads taken gone =
     let found : Some o.open_box.index.meaning ≡ Some draft.index.meaning = sym o.meaning ∙ means in
     let same : draft.index.meaning ≡ o.open_box.index.meaning = sym (cc found) in
     let anew : entries_anew mailbox.0 v ≡ box_snapshot o.open_box.index.meaning = anew_there mailbox.0 v (Some o.open_box.index.meaning) o.open_box.index.meaning (sym o.meaning) refl in
     let own : OpenBox = record { number = draft.number; log = draft.log; index = draft.index } in
     let own_number : o.open_box.number.0 ≡ mailbox.0 = equal_is o.open_box.number.0 mailbox.0 (found_one (λ (b : OpenBox). b.number.0 == mailbox.0) v.boxes o.open_box o.found).1 in
+    let box_number : o.box.number ≡ mailbox.0 = equal_is o.box.number mailbox.0 (found_one (λ (b : MapBox). b.number == mailbox.0) v.map.boxes o.box o.there).1 in
+    let named_so : file.Box o.box.number o.box.generation ≡ file.Box mailbox.0 o.open_box.log.head.generation = ap (λ (n : ℕ). file.Box n o.box.generation) box_number ∙ ap (λ (n : ℕ). file.Box mailbox.0 n) (sym o.generation) in
     record {
       before = o.open_box;
       now = own;
@@ -99,6 +102,8 @@ box_written_anew old now v w mailbox draft o next f number means boxes reads =
       means = same;
       reads = reads (map box_text (box_snapshot o.open_box.index.meaning)) (subst (λ (es : List BoxEntry). Drafts draft.log (map box_text es) old) anew f.reads);
       count = f.count ∙ ap length anew;
+      mapped = taken ∙ ap (λ (n : ℕ). map_applied (map_entry.G draft.number n) v.map) (sym (ap (λ h. h.generation) f.drafted.head));
+      gone = subst (λ (name : FileName). IfTold now (λ disk. disk name ≡ no_file)) named_so gone;
     }
 
 -- ---- no other log

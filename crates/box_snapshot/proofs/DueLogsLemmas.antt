@@ -1,8 +1,8 @@
 -- The mailboxes by place: the logs of the first so many aren't due.
-use Rattle.std.specs.Prelude.{◌≢◌, ◌<◌, ◌≤◌, ◌+◌, ◌*◌, ◌==◌, ◌&&◌, ◌++◌, AllPairs, find, if◌then◌else◌, nat_le, nat_lt, slice_get}
+use Rattle.std.specs.Prelude.{◌⊎◌, ◌≢◌, ◌<◌, ◌≤◌, ◌+◌, ◌*◌, ◌==◌, ◌&&◌, ◌++◌, AllPairs, find, if◌then◌else◌, nat_le, nat_lt, slice_get}
 use Rattle.std.specs.Option.{option_map_or}
 use Rattle.std.proofs.Common.{◌≡◌, inl, inr, ℕ, Bool, true, false, cond, List, [], ◌∷◌, length, map, suc, zero, Option, Some, None, All, refl, sym, ◌∙◌, ap, subst, arith, option_map}
-use Rattle.std.proofs.lemmas.Bool.{cases_lt, cond-false, cond-true, eq-eqb, le-ltb, ne_eqb, true≢false}
+use Rattle.std.proofs.lemmas.Bool.{cases_Bool, cases_lt, cond-false, cond-true, eq-eqb, le-ltb, ne_eqb, true≢false}
 use Rattle.std.proofs.lemmas.List.{length-append, length-map}
 use Rattle.std.proofs.lemmas.List.Elements.{All-cons, All-get_or, All-nil}
 use Rattle.std.proofs.lemmas.Option.{get_or_from_slice_get, slice_get-map, slice_get_within}
@@ -24,7 +24,7 @@ use Rattle.store_core.specs.Running.{AreBoxLogs}
 use Rattle.store_core.specs.Value.{StoreValue}
 use Rattle.store_core.specs.declared.store.OpenBox.{OpenBox}
 use Rattle.box_snapshot.specs.Due.{AreUndueTo, KeepsUndue, is_box_due, is_due_at, is_log_due, is_map_due, needs_of_box, needs_of_map}
-use Rattle.box_snapshot.specs.Rewrites.{IsBoxWritten, Rewrites}
+use Rattle.box_snapshot.specs.Rewrites.{IsBoxWritten, IsLogAnew, Rewrites, WritesOnce}
 
 -- ---- a log that was written anew
 
@@ -198,6 +198,62 @@ kept_then a b c first second = λ number undue. second number (ap (λ (o : Optio
 
 pub kept_on : {D : Type 0} (a b c : StoreValue D) → c.boxes ≡ b.boxes → KeepsUndue a b → KeepsUndue a c
 kept_on a b c same first = λ number undue. ap (find (λ (x : OpenBox). x.number.0 == number)) same ∙ first number undue
+
+-- ---- mailboxes that are due
+
+-- the mailbox is found as it was written
+find_written : (number : ℕ) (now before : OpenBox) (boxes : List OpenBox) → now.number.0 ≡ number → find (λ b. b.number.0 == number) boxes ≡ Some before
+    → find (λ b. b.number.0 == number) (map (λ b. if b.number.0 == number then now else b) boxes) ≡ Some now
+find_written number now before [] is found = absurd (cc (let h : None ≡ Some before = found in h))
+find_written number now before (b ∷ bs) is found = one (b.number.0 == number) refl (λ there. find_written number now before bs is there)
+  where
+    P : OpenBox → Bool
+    P x = x.number.0 == number
+
+    rest : Option OpenBox
+    rest = find P (map (λ (x : OpenBox). if x.number.0 == number then now else x) bs)
+
+    one : (t : Bool) → P b ≡ t → (find P bs ≡ Some before → rest ≡ Some now) → cond (P (if t then now else b)) (Some (if t then now else b)) rest ≡ Some now
+    one true e further = cond-true (P now) (Some now) rest (eq-eqb now.number.0 number is)
+    one false e further = cond-false (P b) (Some b) rest e ∙ further (sym (cond-false (P b) (Some b) (find P bs) e) ∙ found)
+
+pub once_itself : {D : Type 0} (v : StoreValue D) → WritesOnce v v
+once_itself v = λ number. inl refl
+
+-- one more that was due, so it wasn't written anew before
+pub once_then : {D : Type 0} (written : ℕ) (history : Option History) (first mid new : StoreValue D) → is_due_at written mid ≡ true → IsBoxWritten written history mid new → WritesOnce first mid → WritesOnce first new
+once_then written history first mid new due w before = λ number. elim (cases_Bool (written == number)) [
+  | inl here ↦ subst (λ (k : ℕ). (find (λ (b : OpenBox). b.number.0 == k) new.boxes ≡ find (λ (b : OpenBox). b.number.0 == k) first.boxes) ⊎ IsLogAnew k first new) (equal_is written number here) (inr (own (before written)))
+  | inr apart ↦ elim (before number) [
+    | inl same ↦ inl (beside number apart ∙ same)
+    | inr anew ↦ inr (record { before = anew.before; now = anew.now; found = anew.found; found_now = beside number apart ∙ anew.found_now; generation = anew.generation; means = anew.means; count = anew.count })
+  ]
+]
+  where
+    number_now : w.now.number.0 ≡ written
+    number_now = ap (λ (n : BoxNo). n.0) w.number_is ∙ equal_is w.before.number.0 written (found_holds (λ (b : OpenBox). b.number.0 == written) mid.boxes w.before (λ b. b ≡ b) w.found (all_same mid.boxes)).1
+
+    beside : (number : ℕ) → (written == number) ≡ false → find (λ (b : OpenBox). b.number.0 == number) new.boxes ≡ find (λ (b : OpenBox). b.number.0 == number) mid.boxes
+    beside number apart = ap (find (λ (b : OpenBox). b.number.0 == number)) w.boxes ∙ find_beside number written w.now mid.boxes (λ same. true≢false (sym (eq-eqb written number same) ∙ apart)) number_now
+
+    own : (find (λ (b : OpenBox). b.number.0 == written) mid.boxes ≡ find (λ (b : OpenBox). b.number.0 == written) first.boxes) ⊎ IsLogAnew written first mid → IsLogAnew written first new
+    own (inl same) = record {
+      before = w.before;
+      now = w.now;
+      found = sym same ∙ w.found;
+      found_now = ap (find (λ (b : OpenBox). b.number.0 == written)) w.boxes ∙ find_written written w.now w.before mid.boxes number_now w.found;
+      generation = w.generation;
+      means = w.means;
+      count = w.count;
+    }
+    own (inr anew) = absurd (true≢false (sym due ∙ (ap (λ (o : Option OpenBox). option_map_or is_box_due o false) anew.found_now ∙ box_written anew.before anew.now anew.count anew.means)))
+
+-- where none is due any more, each that was due was written anew; the map log is another matter
+pub due_written : {D : Type 0} (old mid new : StoreValue D) → WritesOnce old mid → All (λ b. is_box_due b ≡ false) mid.boxes → new.boxes ≡ mid.boxes → (number : ℕ) → is_due_at number old ≡ true → IsLogAnew number old new
+due_written old mid new once undue boxes number due = elim (once number) [
+  | inl same ↦ absurd (true≢false (sym due ∙ (ap (λ (o : Option OpenBox). option_map_or is_box_due o false) (sym same) ∙ none_due number mid.boxes undue)))
+  | inr anew ↦ record { before = anew.before; now = anew.now; found = anew.found; found_now = ap (find (λ (b : OpenBox). b.number.0 == number)) boxes ∙ anew.found_now; generation = anew.generation; means = anew.means; count = anew.count }
+]
 
 -- ---- a store that isn't stopped, and without logs that were made
 

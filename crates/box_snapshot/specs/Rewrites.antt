@@ -1,13 +1,15 @@
 -- What a store and its disk are when logs were written anew.
 use Rattle.std.specs.Prelude.{◌≡◌, ◌⊎◌, ◌+◌, ◌==◌, ℕ, false, length, map, find, if◌then◌else◌, Option, Some}
-use Rattle.disk_model.specs.Disk.{DiskState, History, Between, EachImage, Grows, IfTold, IsThere, named}
+use Rattle.disk_model.specs.Disk.{DiskState, History, Between, EachImage, Grows, IfTold, IsThere, named, no_file}
 use Rattle.disk_model.specs.Name.{IsLogName}
 use Rattle.disk_model.specs.declared.name.FileName.{FileName}
+use Rattle.disk_model.specs.declared.name.FileName.TheVariants as file
 use Rattle.gate_log.specs.Log.{Reads}
+use Rattle.mdbox_base.specs.declared.entries.MapEntry.TheVariants as map_entry
 use Rattle.model_kept.specs.Kept.{MailIsKept}
 use Rattle.model_lists.specs.Lists.{Lists}
 use Rattle.model_logs.specs.Entries.{box_text, map_text}
-use Rattle.model_meaning.specs.MapMeaning.{MapMeaning}
+use Rattle.model_meaning.specs.MapMeaning.{MapMeaning, map_applied}
 use Rattle.model_meaning.specs.SameMeaning.{MeansSame}
 use Rattle.model_rewritten.specs.Rewriting.{box_snapshot, map_snapshot}
 use Rattle.model_rewritten.specs.Unneeded.{IsUnneeded}
@@ -48,7 +50,7 @@ abbrev pub LeavesNoOldLogs : {D : Type 0} → (D → Option History) → StoreVa
 LeavesNoOldLogs history old new = Between (λ a b. OnlyLogsInForce old a → OnlyLogsInForce new b) (history old.disk) (history new.disk)
 
 -- The log of the mailbox with this number was written anew: it is of the next generation, it has an entry for each message and at
--- most one for the next UID, and it means the same. Each other mailbox is as it was.
+-- most one for the next UID, and it means the same. The map names it, and the old log is removed. Each other mailbox is as it was.
 pub record IsBoxWritten {D : Type 0} (number : ℕ) (history : Option History) (old new : StoreValue D) : Type 0 where
   pub before : OpenBox
   pub now : OpenBox
@@ -59,10 +61,27 @@ pub record IsBoxWritten {D : Type 0} (number : ℕ) (history : Option History) (
   pub means : now.index.meaning ≡ before.index.meaning
   pub count : now.log.count ≡ length (box_snapshot before.index.meaning)
   pub reads : Reads now.log (map box_text (box_snapshot before.index.meaning)) history
+  pub mapped : new.map ≡ map_applied (map_entry.G now.number now.log.head.generation) old.map
+  pub gone : IfTold history (λ disk. disk (file.Box number before.log.head.generation) ≡ no_file)
+
+-- The log of the mailbox with this number was written anew, whatever became of the others.
+pub record IsLogAnew {D : Type 0} (number : ℕ) (old new : StoreValue D) : Type 0 where
+  pub before : OpenBox
+  pub now : OpenBox
+  pub found : find (λ b. b.number.0 == number) old.boxes ≡ Some before
+  pub found_now : find (λ b. b.number.0 == number) new.boxes ≡ Some now
+  pub generation : now.log.head.generation ≡ before.log.head.generation + 1
+  pub means : now.index.meaning ≡ before.index.meaning
+  pub count : now.log.count ≡ length (box_snapshot before.index.meaning)
+
+-- each mailbox is as it was, or its log was written anew, once
+abbrev pub WritesOnce : {D : Type 0} → StoreValue D → StoreValue D → Type 0
+WritesOnce old new = (number : ℕ) → (find (λ b. b.number.0 == number) new.boxes ≡ find (λ b. b.number.0 == number) old.boxes) ⊎ IsLogAnew number old new
 
 -- The map log was written anew: it is of the next generation, and has an entry for each mailbox, record and sealed file, and one for
--- the highest numbers.
+-- the highest numbers. The old log is removed.
 pub record IsMapWritten {D : Type 0} (history : Option History) (old new : StoreValue D) : Type 0 where
   pub generation : new.map_log.head.generation ≡ old.map_log.head.generation + 1
   pub count : new.map_log.count ≡ length (map_snapshot old.map)
   pub reads : Reads new.map_log (map map_text (map_snapshot old.map)) history
+  pub gone : IfTold history (λ disk. disk old.map_log.name ≡ no_file)

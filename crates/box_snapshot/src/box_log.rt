@@ -35,6 +35,9 @@ pub fn snapshot_box<D: Disk>(store: &mut Store<D>, mailbox: BoxNo) -> Result<(),
     ensures written { OnOk result (IsBoxWritten mailbox.0 (D.history store.new.disk) store.old store.new) }
     ensures only { OnOk result (LeavesNoOldLogs D.history store.old store.new) }
 
+    // The root log is as it was.
+    ensures same { store.new ≡ record store.old { disk = store.new.disk; map_log = store.new.map_log; map = store.new.map; boxes = store.new.boxes; stopped = store.new.stopped } }
+
     ensures stopped { IsErrOf result step_error.Stopped ↔ (store.new.stopped ≡ true) }
     ensures memory { IsErrOf result step_error.NoMemory → store.new ≡ record store.old { disk = store.new.disk } }
     ensures fault { ChangeFaultCounted (IsErrOf result step_error.Stopped) (D.faults store.old.disk) (D.faults store.new.disk) }
@@ -54,6 +57,7 @@ fn switched<D: Disk>(store: &mut Store<D>, mailbox: BoxNo, draft: BoxDraft) -> R
     ensures rewrites { Rewrites D.history store.old store.new }
     ensures written { OnOk result (IsBoxWritten mailbox.0 (D.history store.new.disk) store.old store.new) }
     ensures only { OnOk result (Between (λ a b. OnlyLogsBut draft.log.name store.old a → OnlyLogsInForce store.new b) (D.history store.old.disk) (D.history store.new.disk)) }
+    ensures same { store.new ≡ record store.old { disk = store.new.disk; map_log = store.new.map_log; map = store.new.map; boxes = store.new.boxes; stopped = store.new.stopped } }
     ensures stopped { IsErrOf result step_error.Stopped ↔ (store.new.stopped ≡ true) }
     ensures memory { IsErrOf result step_error.NoMemory → ⊥ }
     ensures fault { ChangeFaultCounted (IsErrOf result step_error.Stopped) (D.faults store.old.disk) (D.faults store.new.disk) }

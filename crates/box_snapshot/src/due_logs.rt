@@ -1,9 +1,10 @@
 // All logs that are due are written anew.
-ghost use Rattle.std.specs.Prelude.{◌≡◌, ◌↔◌, ◌<◌, ◌+◌, All, Ok, OnOk, IsErrOf, length, [], false, true};
+ghost use Rattle.std.specs.Prelude.{ℕ, ◌≡◌, ◌↔◌, ◌<◌, ◌+◌, All, Ok, OnOk, IsErrOf, length, [], false, true};
 ghost use Rattle.disk_model.specs.FaultCounts.{NoFault, ChangeFaultCounted};
 ghost use Rattle.store_core.specs.declared.error.StepError.TheVariants as step_error;
-ghost use Rattle.box_snapshot.specs.Due.{AreUndueTo, KeepsUndue, NoLogDue, is_box_due, is_map_due};
-ghost use Rattle.box_snapshot.specs.Rewrites.{LeavesNoOldLogs, Rewrites};
+ghost use Rattle.box_snapshot.specs.Due.{AreUndueTo, KeepsUndue, NoLogDue, is_box_due, is_due_at, is_map_due};
+ghost use Rattle.box_snapshot.specs.Rewrites.{IsLogAnew, LeavesNoOldLogs, Rewrites, WritesOnce};
+ghost use Rattle.store_core.specs.Value.{StoreValue};
 
 use crate::box_log::snapshot_box;
 use crate::due::{box_due, map_due};
@@ -20,6 +21,9 @@ pub fn snapshot_due<D: Disk>(store: &mut Store<D>) -> Result<(), StepError>
     ensures rewrites { Rewrites D.history store.old store.new }
     ensures undue { OnOk result (NoLogDue store.new) }
     ensures only { OnOk result (LeavesNoOldLogs D.history store.old store.new) }
+
+    // Each log of a mailbox that is due is written anew.
+    ensures written { OnOk result ((number : ℕ) → is_due_at number store.old ≡ true → IsLogAnew number store.old store.new) }
 
     // A log of a mailbox that isn't due stays.
     ensures kept { OnOk result (KeepsUndue store.old store.new) }
@@ -43,6 +47,7 @@ fn snapshot_due_boxes<D: Disk>(store: &mut Store<D>) -> Result<(), StepError>
     ensures undue { OnOk result (All (λ b. is_box_due b ≡ false) store.new.boxes) }
     ensures only { OnOk result (LeavesNoOldLogs D.history store.old store.new) }
     ensures kept { OnOk result (KeepsUndue store.old store.new) }
+    ensures once { OnOk result (WritesOnce store.old store.new) }
     ensures idle { All (λ b. is_box_due b ≡ false) store.old.boxes → (result ≡ Ok tt) × (store.new ≡ store.old) }
     ensures stopped { IsErrOf result step_error.Stopped ↔ (store.new.stopped ≡ true) }
     ensures fault { ChangeFaultCounted (IsErrOf result step_error.Stopped) (D.faults store.old.disk) (D.faults store.new.disk) }
@@ -64,6 +69,7 @@ fn snapshot_due_at<D: Disk>(store: &mut Store<D>, place: u32) -> Result<(), Step
     ensures undue { OnOk result (AreUndueTo place store.old.boxes → AreUndueTo (place + 1) store.new.boxes) }
     ensures only { OnOk result (LeavesNoOldLogs D.history store.old store.new) }
     ensures kept { OnOk result (KeepsUndue store.old store.new) }
+    ensures once { OnOk result ((first : StoreValue D) → WritesOnce first store.old → WritesOnce first store.new) }
     ensures idle { All (λ b. is_box_due b ≡ false) store.old.boxes → (result ≡ Ok tt) × (store.new ≡ store.old) }
     ensures stopped { IsErrOf result step_error.Stopped ↔ (store.new.stopped ≡ true) }
     ensures fault { ChangeFaultCounted (IsErrOf result step_error.Stopped) (D.faults store.old.disk) (D.faults store.new.disk) }

@@ -52,6 +52,10 @@ abbrev pub IsDiskOver : Option Modelled → List System → List (Change × List
 IsDiskOver None past changes is_spoiled = ⊤
 IsDiskOver (Some m) past changes is_spoiled = IsOver m past changes is_spoiled
 
+-- the system is as it was, and so is its past: no call has changed anything
+abbrev pub LeavesFolder : Option Modelled → List System → Option Modelled → List System → Type 0
+LeavesFolder old past new later = (new ≡ old) × (later ≡ past)
+
 -- the states of a disk over a modelled system
 abbrev pub told_history : Option Modelled → List (Change × List ℕ) → Option History
 told_history None changes = None

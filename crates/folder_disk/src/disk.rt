@@ -2,7 +2,8 @@
 ghost use Rattle.std.specs.Prelude.{◌≡◌, ◌+◌, ◌-◌, ◌^◌, ◌<◌, ◌≤◌, min, length, take, drop, true, false};
 ghost use Rattle.std.specs.BTreeSet.{btree_set_len};
 ghost use Rattle.folder_model.specs.Calls.{IfModelled, IsLocked};
-ghost use Rattle.folder_disk.specs.Over.{IsDiskOver, told_history};
+ghost use Rattle.folder_model.specs.Limits.{most_open};
+ghost use Rattle.folder_disk.specs.Over.{IsDiskOver, LeavesFolder, told_history};
 ghost use Rattle.folder_disk.specs.Known.{AreKnownNames};
 ghost use Rattle.folder_disk.specs.Changed.{AreSyncedBut};
 
@@ -17,12 +18,12 @@ use crate::names::{names_there, next_in, with_name, without_name};
 use crate::paths::path_of;
 use disk_model::{DiskError, FileName, is_log};
 use disk_record::{Change, Record};
-use folder_model::{CallError, Folder};
+use folder_model::{CallError, Folder, MOST_OPEN};
 use std::alloc::Global;
 use std::collections::BTreeSet;
 
-/// How many files may have octets that aren't synced, so that one more can be open in a folder that keeps 16 open.
-const MOST_UNSYNCED: usize = 15;
+/// How many files may have octets that aren't synced, so that one more can be open in a folder that keeps files open.
+const MOST_UNSYNCED: usize = MOST_OPEN - 1;
 
 /// A store's files in a folder.
 ///
@@ -52,7 +53,7 @@ pub struct FolderDisk<F: Folder> {
     pub(crate) calls: u64,
     pub(crate) failed_reads: u64,
     pub(crate) failed_changes: u64,
-    ghost few: { btree_set_len unsynced ≤ 15 },
+    ghost few: { btree_set_len unsynced < most_open },
     ghost counted: { calls ≡ min (length record.changes) (2 ^ 64 - 1) },
     ghost over: { ∥ IsDiskOver (F.Folder.modelled folder) (F.Folder.past folder) record.changes is_spoiled ∥₁ },
     ghost listed: { ∥ AreKnownNames ⟦<FileName as Ord>⟧.cmp (told_history (F.Folder.modelled folder) record.changes) names ∥₁ },
@@ -81,6 +82,7 @@ impl<F: Folder + Drop> FolderDisk<F> {
         requires store { IfModelled (F.Folder.modelled folder) IsStoreSystem }
         ensures told { told_history (F.Folder.modelled result.folder) result.record.changes ≡ told_history (F.Folder.modelled folder) [] }
         ensures faults { (result.failed_reads ≡ 0) × (result.failed_changes ≡ 0) }
+        ensures tries { result.tries ≡ 3000 }
     {
         FolderDisk::asking(folder, alloc, TRIES)
     }
@@ -91,6 +93,7 @@ impl<F: Folder + Drop> FolderDisk<F> {
         requires store { IfModelled (F.Folder.modelled folder) IsStoreSystem }
         ensures told { told_history (F.Folder.modelled result.folder) result.record.changes ≡ told_history (F.Folder.modelled folder) [] }
         ensures faults { (result.failed_reads ≡ 0) × (result.failed_changes ≡ 0) }
+        ensures tries { result.tries ≡ tries }
     {
         FolderDisk {
             folder,
@@ -137,6 +140,7 @@ impl<F: Folder + Drop> FolderDisk<F> {
         ensures told { told_history (F.Folder.modelled self.new.folder) self.new.record.changes ≡ told_history (F.Folder.modelled self.old.folder) self.old.record.changes }
         ensures same { (self.new.failed_reads ≡ self.old.failed_reads) × (self.new.failed_changes ≡ self.old.failed_changes) × (self.new.is_spoiled ≡ self.old.is_spoiled) }
         ensures firm { self.new.firm ≡ self.old.firm }
+        ensures spent { self.old.is_spoiled ≡ true → IsErr result × (self.new.is_spoiled ≡ true) × LeavesFolder (F.Folder.modelled self.old.folder) (F.Folder.past self.old.folder) (F.Folder.modelled self.new.folder) (F.Folder.past self.new.folder) }
     {
         if self.is_spoiled {
             return Err(CallError::Failed);
@@ -208,6 +212,7 @@ impl<F: Folder + Drop> FolderDisk<F> {
         ensures spelled { IfOk result (λ found. IfSome found (λ path. IsPath (string_bytes path))) }
         ensures told { told_history (F.Folder.modelled self.new.folder) self.new.record.changes ≡ told_history (F.Folder.modelled self.old.folder) self.old.record.changes }
         ensures same { (self.new.failed_reads ≡ self.old.failed_reads) × (self.new.failed_changes ≡ self.old.failed_changes) }
+        ensures spent { self.old.is_spoiled ≡ true → IsErr result × (self.new.is_spoiled ≡ true) × LeavesFolder (F.Folder.modelled self.old.folder) (F.Folder.past self.old.folder) (F.Folder.modelled self.new.folder) (F.Folder.past self.new.folder) }
     {
         self.ready()?;
         let Some(path) = path_of(self.alloc, name)? else {
@@ -226,7 +231,7 @@ impl<F: Folder + Drop> FolderDisk<F> {
         ensures locked { OnOk result (IsLocked (F.Folder.modelled self.new.folder)) }
         ensures sound { OnOk result (IsSoundSystem (F.Folder.modelled self.new.folder)) }
         ensures spoiled { OnOk result (self.new.is_spoiled ≡ false) }
-        ensures room { OnOk result (IsTrue (contains ⟦<FileName as Ord>⟧.cmp self.new.unsynced name) ⊎ (btree_set_len self.new.unsynced < 15)) }
+        ensures room { OnOk result (IsTrue (contains ⟦<FileName as Ord>⟧.cmp self.new.unsynced name) ⊎ (btree_set_len self.new.unsynced + 1 < most_open)) }
         ensures told { told_history (F.Folder.modelled self.new.folder) self.new.record.changes ≡ told_history (F.Folder.modelled self.old.folder) self.old.record.changes }
         ensures same { (self.new.failed_reads ≡ self.old.failed_reads) × (self.new.failed_changes ≡ self.old.failed_changes) }
     {
@@ -253,6 +258,7 @@ impl<F: Folder + Drop> FolderDisk<F> {
         ensures spelled { IfOk result (λ found. IfSome found (λ path. IsPath (string_bytes path))) }
         ensures told { told_history (F.Folder.modelled self.new.folder) self.new.record.changes ≡ told_history (F.Folder.modelled self.old.folder) self.old.record.changes }
         ensures same { (self.new.failed_reads ≡ self.old.failed_reads) × (self.new.failed_changes ≡ self.old.failed_changes) }
+        ensures spent { self.old.is_spoiled ≡ true → IsErr result × (self.new.is_spoiled ≡ true) × LeavesFolder (F.Folder.modelled self.old.folder) (F.Folder.past self.old.folder) (F.Folder.modelled self.new.folder) (F.Folder.past self.new.folder) }
     {
         let Some(path) = self.path_to_use(name)? else {
             return Ok(None);
@@ -272,6 +278,7 @@ impl<F: Folder + Drop> FolderDisk<F> {
         ensures settled { IfOk result (λ found. IfSome found (λ n. IsSettledLog ⟦<FileName as Ord>⟧.cmp self.old.firm name (path_text name) (F.Folder.modelled self.new.folder))) }
         ensures told { told_history (F.Folder.modelled self.new.folder) self.new.record.changes ≡ told_history (F.Folder.modelled self.old.folder) self.old.record.changes }
         ensures same { (self.new.failed_reads ≡ self.old.failed_reads) × (self.new.failed_changes ≡ self.old.failed_changes) }
+        ensures spent { self.old.is_spoiled ≡ true → IsErr result × (self.new.is_spoiled ≡ true) × LeavesFolder (F.Folder.modelled self.old.folder) (F.Folder.past self.old.folder) (F.Folder.modelled self.new.folder) (F.Folder.past self.new.folder) }
     {
         match self.path_to_use(name)? {
             Some(path) => length_at(&mut self.folder, path.as_str()),
@@ -295,6 +302,7 @@ impl<F: Folder + Drop> FolderDisk<F> {
         ensures untouched { IfOk result (λ found. IfNone found (into.new ≡ into.old)) }
         ensures told { told_history (F.Folder.modelled self.new.folder) self.new.record.changes ≡ told_history (F.Folder.modelled self.old.folder) self.old.record.changes }
         ensures same { (self.new.failed_reads ≡ self.old.failed_reads) × (self.new.failed_changes ≡ self.old.failed_changes) }
+        ensures spent { self.old.is_spoiled ≡ true → IsErr result × (self.new.is_spoiled ≡ true) × LeavesFolder (F.Folder.modelled self.old.folder) (F.Folder.past self.old.folder) (F.Folder.modelled self.new.folder) (F.Folder.past self.new.folder) }
     {
         match self.path_to_use(name)? {
             Some(path) => read_at(&mut self.folder, path.as_str(), offset, into),
@@ -325,6 +333,7 @@ impl<F: Folder + Drop> FolderDisk<F> {
         ensures next { IfOk result (λ next. IfTold (told_history (F.Folder.modelled self.old.folder) self.old.record.changes) (IsNext ⟦<FileName as Ord>⟧.cmp after next)) }
         ensures told { told_history (F.Folder.modelled self.new.folder) self.new.record.changes ≡ told_history (F.Folder.modelled self.old.folder) self.old.record.changes }
         ensures same { (self.new.failed_reads ≡ self.old.failed_reads) × (self.new.failed_changes ≡ self.old.failed_changes) }
+        ensures spent { self.old.is_spoiled ≡ true → IsErr result × (self.new.is_spoiled ≡ true) × LeavesFolder (F.Folder.modelled self.old.folder) (F.Folder.past self.old.folder) (F.Folder.modelled self.new.folder) (F.Folder.past self.new.folder) }
     {
         self.ready()?;
         let names = self.known_names()?;
@@ -343,6 +352,7 @@ impl<F: Folder + Drop> FolderDisk<F> {
         ensures absent { IsErrOf result Absent ↔ (answer ≡ Ok None) }
         ensures told { told_history (F.Folder.modelled self.new.folder) self.new.record.changes ≡ after (λ disk. disk) (told_history (F.Folder.modelled self.old.folder) self.old.record.changes) }
         ensures cause { ReadCause result (record { reads = self.old.failed_reads; changes = self.old.failed_changes }) (record { reads = self.new.failed_reads; changes = self.new.failed_changes }) }
+        ensures left { (self.new.is_spoiled ≡ self.old.is_spoiled) × LeavesFolder (F.Folder.modelled self.old.folder) (F.Folder.past self.old.folder) (F.Folder.modelled self.new.folder) (F.Folder.past self.new.folder) }
     {
         self.pass();
         match answer {
@@ -360,6 +370,7 @@ impl<F: Folder + Drop> FolderDisk<F> {
     fn pass(&mut self)
         ensures told { told_history (F.Folder.modelled self.new.folder) self.new.record.changes ≡ after (λ disk. disk) (told_history (F.Folder.modelled self.old.folder) self.old.record.changes) }
         ensures same { (self.new.failed_reads ≡ self.old.failed_reads) × (self.new.failed_changes ≡ self.old.failed_changes) × (self.new.is_spoiled ≡ self.old.is_spoiled) }
+        ensures left { LeavesFolder (F.Folder.modelled self.old.folder) (F.Folder.past self.old.folder) (F.Folder.modelled self.new.folder) (F.Folder.past self.new.folder) }
     {
         self.record.note(&Change::Nothing, &[]);
         self.calls = self.calls.saturating_add(1);
@@ -373,6 +384,7 @@ impl<F: Folder + Drop> FolderDisk<F> {
         ensures last { self.new.is_spoiled ≡ true }
         ensures failed { IsErr result }
         ensures cause { ChangeCause result (record { reads = self.old.failed_reads; changes = self.old.failed_changes }) (record { reads = self.new.failed_reads; changes = self.new.failed_changes }) }
+        ensures left { LeavesFolder (F.Folder.modelled self.old.folder) (F.Folder.past self.old.folder) (F.Folder.modelled self.new.folder) (F.Folder.past self.new.folder) }
     {
         self.record.note(change, &[]);
         self.calls = self.calls.saturating_add(1);
@@ -400,6 +412,7 @@ impl<F: Folder + Drop> FolderDisk<F> {
         ensures failed { OnErr result (told_history (F.Folder.modelled self.new.folder) self.new.record.changes ≡ after (change name (half_written offset (length from.now))) (told_history (F.Folder.modelled self.old.folder) self.old.record.changes)) }
         ensures fits { OnOk result (offset + length from.now < 2 ^ 64) }
         ensures cause { ChangeCause result (record { reads = self.old.failed_reads; changes = self.old.failed_changes }) (record { reads = self.new.failed_reads; changes = self.new.failed_changes }) }
+        ensures last { OnErr result (self.new.is_spoiled ≡ true) }
     {
         match write_at(&mut self.folder, path, offset, from) {
             Ok(()) => {
@@ -435,6 +448,7 @@ impl<F: Folder + Drop> FolderDisk<F> {
         ensures state { OnOk result (told_history (F.Folder.modelled self.new.folder) self.new.record.changes ≡ after (change name (cut_to end)) (told_history (F.Folder.modelled self.old.folder) self.old.record.changes)) }
         ensures failed { OnErr result (told_history (F.Folder.modelled self.new.folder) self.new.record.changes ≡ after (change name (half_cut end)) (told_history (F.Folder.modelled self.old.folder) self.old.record.changes)) }
         ensures cause { ChangeCause result (record { reads = self.old.failed_reads; changes = self.old.failed_changes }) (record { reads = self.new.failed_reads; changes = self.new.failed_changes }) }
+        ensures last { OnErr result (self.new.is_spoiled ≡ true) }
     {
         match cut_at(&mut self.folder, path, end) {
             Ok(()) => {
@@ -464,6 +478,7 @@ impl<F: Folder + Drop> FolderDisk<F> {
         ensures state { OnOk result (told_history (F.Folder.modelled self.new.folder) self.new.record.changes ≡ after (change name synced) (told_history (F.Folder.modelled self.old.folder) self.old.record.changes)) }
         ensures failed { OnErr result (told_history (F.Folder.modelled self.new.folder) self.new.record.changes ≡ after (λ disk. disk) (told_history (F.Folder.modelled self.old.folder) self.old.record.changes)) }
         ensures cause { ChangeCause result (record { reads = self.old.failed_reads; changes = self.old.failed_changes }) (record { reads = self.new.failed_reads; changes = self.new.failed_changes }) }
+        ensures last { OnErr result (self.new.is_spoiled ≡ true) }
     {
         match sync_at(&mut self.folder, path) {
             Ok(()) => {
@@ -493,6 +508,7 @@ impl<F: Folder + Drop> FolderDisk<F> {
         ensures state { OnOk result (told_history (F.Folder.modelled self.new.folder) self.new.record.changes ≡ after (change name made) (told_history (F.Folder.modelled self.old.folder) self.old.record.changes)) }
         ensures failed { OnErr result (told_history (F.Folder.modelled self.new.folder) self.new.record.changes ≡ after (change name half_made) (told_history (F.Folder.modelled self.old.folder) self.old.record.changes)) }
         ensures cause { ChangeCause result (record { reads = self.old.failed_reads; changes = self.old.failed_changes }) (record { reads = self.new.failed_reads; changes = self.new.failed_changes }) }
+        ensures last { OnErr result (self.new.is_spoiled ≡ true) }
     {
         match make_file(&mut self.folder, self.alloc, &mut self.changed, path, name) {
             Ok(()) => {
@@ -523,6 +539,7 @@ impl<F: Folder + Drop> FolderDisk<F> {
         ensures state { OnOk result (told_history (F.Folder.modelled self.new.folder) self.new.record.changes ≡ after (change name removed) (told_history (F.Folder.modelled self.old.folder) self.old.record.changes)) }
         ensures failed { OnErr result (told_history (F.Folder.modelled self.new.folder) self.new.record.changes ≡ after (change name half_removed) (told_history (F.Folder.modelled self.old.folder) self.old.record.changes)) }
         ensures cause { ChangeCause result (record { reads = self.old.failed_reads; changes = self.old.failed_changes }) (record { reads = self.new.failed_reads; changes = self.new.failed_changes }) }
+        ensures last { OnErr result (self.new.is_spoiled ≡ true) }
     {
         match remove_file(&mut self.folder, path, name) {
             Ok(removed) => {
@@ -565,6 +582,7 @@ impl<F: Folder + Drop> FolderDisk<F> {
         ensures state { OnOk result (told_history (F.Folder.modelled self.new.folder) self.new.record.changes ≡ after (change_all named) (told_history (F.Folder.modelled self.old.folder) self.old.record.changes)) }
         ensures failed { OnErr result (told_history (F.Folder.modelled self.new.folder) self.new.record.changes ≡ after (λ disk. disk) (told_history (F.Folder.modelled self.old.folder) self.old.record.changes)) }
         ensures cause { ChangeCause result (record { reads = self.old.failed_reads; changes = self.old.failed_changes }) (record { reads = self.new.failed_reads; changes = self.new.failed_changes }) }
+        ensures last { OnErr result (self.new.is_spoiled ≡ true) }
     {
         match sync_names(&mut self.folder, self.alloc, &self.changed) {
             Ok(()) => {

@@ -2,14 +2,12 @@
 ghost use Rattle.std.specs.Prelude.{◌≡◌, ◌≢◌, ◌<◌, ◌≤◌, ◌⊎◌, ◌++◌, ◌∷◌, [], true, false, length, vec_len, All, Contains, IfOk, IfSome, IfNone, OnOk, OnErr, string_bytes};
 ghost use Rattle.std.specs.List.{HoldsAt};
 ghost use Rattle.std.specs.Arc.{arc_value};
+ghost use Rattle.folder_model.specs.Limits.{most_open};
 ghost use Rattle.folder_kept.specs.Open.{IsOpenAt, IsNotOpen, IsKeptAt, IsOpenAs, IsOpenFor, AreAmong, AreMore, AreMarked, HaveOwnIds, KeepsUnsynced};
 
-use folder_model::CallError;
+use folder_model::{CallError, MOST_OPEN};
 use std::alloc::Global;
 use std::sync::Arc;
-
-/// How many files stay open.
-const MOST: usize = 16;
 
 /// An open file that a folder may keep open beside its user.
 #[derive(Drop)]
@@ -85,7 +83,7 @@ pub(crate) struct OpenFiles<T: Drop> {
     files: Vec<OpenFile<T>>,
     /// Above the number of each file that was opened.
     next_id: u64,
-    ghost few: { vec_len files ≤ 16 },
+    ghost few: { vec_len files ≤ most_open },
     ghost apart: { HaveOwnIds next_id files.items },
 }
 
@@ -184,7 +182,7 @@ impl<T: Drop> OpenFiles<T> {
 
     /// Adds a file at the end, whose number is above that of each other.
     fn add(&mut self, opened: OpenFile<T>) -> Result<(), CallError>
-        requires place { vec_len self.old.files < 16 }
+        requires place { vec_len self.old.files < most_open }
         requires id { opened.id < self.old.next_id }
         requires above { All (λ file. file.id < opened.id) self.old.files.items }
         ensures ok { OnOk result (self.new.files.items ≡ self.old.files.items ++ opened ∷ []) }
@@ -199,12 +197,12 @@ impl<T: Drop> OpenFiles<T> {
     /// Closes a file that is synced, the one that was opened first, if there are too many for one more.
     #[tactic(auto, using(crate::proofs::OpenLemmas::among_same))]
     fn make_place(&mut self) -> Result<(), CallError>
-        ensures place { OnOk result (vec_len self.new.files < 16) }
-        ensures full { OnErr result ((vec_len self.old.files ≡ 16) × All (λ file. file.is_synced ≡ false) self.old.files.items) }
+        ensures place { OnOk result (vec_len self.new.files < most_open) }
+        ensures full { OnErr result ((vec_len self.old.files ≡ most_open) × All (λ file. file.is_synced ≡ false) self.old.files.items) }
         ensures same { AreAmong self.old.files.items self.new.files.items }
         ensures keeps { KeepsUnsynced (λ _. ⊥) self.old.files.items self.new.files.items }
     {
-        if self.files.len() < MOST {
+        if self.files.len() < MOST_OPEN {
             return Ok(());
         }
         match self.first_synced() {

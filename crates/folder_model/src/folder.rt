@@ -8,6 +8,10 @@ ghost use Rattle.folder_model.specs.declared.folder.CallError.TheVariants.{Inter
 
 use mdbox_base::NoMemory;
 
+/// How many files a folder that keeps files open has open, at the most (`folder_kept`). A disk over it lets one fewer have octets that
+/// aren't synced (`folder_disk`), so that there is one that may be closed.
+pub const MOST_OPEN: usize = 16;
+
 /// What stands at a path.
 #[derive(Clone, Copy, Debug, PartialEq, Eq)]
 pub enum Kind {

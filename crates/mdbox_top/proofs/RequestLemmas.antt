@@ -16,16 +16,18 @@ use Rattle.model_store.proofs.OpeningLemmas.{no_store_or_opens, opens_or_damaged
 use Rattle.model_store.proofs.OpeningSafeLemmas.{safe_opens}
 use Rattle.model_store.proofs.SettledLemmas.{settled_safe}
 use Rattle.store_open.specs.Making.{IdleUnless}
-use Rattle.store_open.specs.Opened.{Opening, IsClosedWell, IsOpeningError}
+use Rattle.store_open.specs.Opened.{HasNoLogDue, Opening, IsClosedWell, IsOpeningError}
 use Rattle.store_open.proofs.SweptStoreLemmas.{carries-idle}
 use Rattle.store_open.specs.declared.error.OpenError.{OpenError}
 use Rattle.store_open.specs.declared.error.OpenError.TheVariants as error
+use Rattle.store_sweep.specs.Moments.{IdleIf}
 use Rattle.request_text.specs.Outcomes.{status_of, reply_outcome}
 use Rattle.request_text.specs.ReplyText.{IsLong}
 use Rattle.request_text.specs.declared.outcome.InputRefusal.{InputRefusal}
 use Rattle.request_text.specs.declared.outcome.StoreRefusal.{StoreRefusal}
 use Rattle.request_text.specs.declared.outcome.Outcome.{Outcome}
 use Rattle.request_text.specs.declared.outcome.Outcome.TheVariants as outcome
+use Rattle.script_run.proofs.DoneLemmas.{settled_safe as safe_settled}
 use Rattle.script_run.specs.Opening.{IsUnopened}
 use Rattle.mdbox_top.specs.InputRun.{IsOneOf}
 use Rattle.mdbox_top.specs.OpeningOutcome.{opening_outcome}
@@ -139,15 +141,29 @@ pub request_ended : {D : Type 0} → (Tells : Option History → Option History 
 request_ended Tells request h k old new f g o e (inl is) = request_reads Tells request h k old new f g o e is
 request_ended {D} Tells request h k old new f g o e (inr w) = request_input Tells request h k old new f g w.0 (subst (λ (x : Outcome). RequestOutcome D Tells request h k old new f g x) w.1 e)
 
+still_if : (old new : Option History) → IsIdle old new → IdleIf HasNoLogDue old new
+still_if old new idle = if_told-all (λ disk. HasNoLogDue disk → IsIdle old new) old (λ disk none. idle)
+
+-- where no log is due, nothing has changed but after a fault of the disk
+undue_idle : (why : OpenError) (old new : Option History) (f g : Faults) → (why ≡ error.DiskFault → ⊥) → IsUnopened why old new f g → IdleIf HasNoLogDue old new
+undue_idle error.NoMemory old new f g other u = u.memory refl
+undue_idle error.NoStore old new f g other u = still_if old new (u.idle other (λ e. cc e))
+undue_idle error.StoreWhole old new f g other u = still_if old new (u.idle other (λ e. cc e))
+undue_idle error.MailFiles old new f g other u = still_if old new (u.idle other (λ e. cc e))
+undue_idle (error.Damaged name place) old new f g other u = still_if old new (u.idle other (λ e. cc e))
+undue_idle error.DiskFault old new f g other u = absurd (other refl)
+
 -- out of memory leaves what any cause leaves that is no fault of the disk
 lacking : (why : OpenError) (old new : Option History) (f g : Faults) → (why ≡ error.DiskFault → ⊥) → IsUnopened why old new f g → IsUnopened error.NoMemory old new f g
 lacking why old new f g other u = record {
   cause = tt;
   idle = λ fault memory. absurd (memory refl);
+  memory = λ why_is. undue_idle why old new f g other u;
   untouched = u.untouched;
   stays = u.stays;
   closed_well = u.closed_well;
   moments = u.moments;
+  safe = u.safe;
   settled_again = λ none. u.settled_again (λ fault. absurd (other fault));
   carried = λ none. u.carried (λ fault. absurd (other fault));
   fault = record { reads = u.fault.reads; changes = u.fault.changes; rose = λ e. absurd (cc e) };
@@ -196,10 +212,12 @@ still_unopened : (old : Option History) (f : Faults) → IsUnopened error.NoMemo
 still_unopened old f = record {
   cause = tt;
   idle = λ fault memory. idle-begins old;
+  memory = λ why_is. still_if old old (idle-begins old);
   untouched = unchanged old;
   stays = λ store entries logs opens. kept_begins (map_meaning store entries) old;
   closed_well = if_told-all (λ disk. IsClosedWell disk → IsIdle old old) old (λ disk well. idle-begins old);
   moments = λ lists s. still_safe lists old s;
+  safe = λ lists s. safe_settled lists old s;
   settled_again = λ none lists s. s;
   carried = λ none. carries-idle old old (idle-begins old);
   fault = record { reads = omega arith; changes = omega arith; rose = λ e. absurd (cc e) };

@@ -71,6 +71,7 @@ use Rattle.script_run.proofs.PurgeTaskLemmas.{IsPurgeTold, StandsPurge, begun_pu
 use Rattle.script_run.proofs.ResyncTaskLemmas.{IsResyncTold, StandsResync, begun_resync, keeps_resync}
 use Rattle.script_run.proofs.RunBeginsLemmas.{at_opening, before_opening, beginning, first_come, opening_begins}
 use Rattle.script_run.proofs.SealedLemmas.{HasKeptSealed, keeps_sealed, sealed_first, sealed_on}
+use Rattle.script_run.proofs.ReopenedLemmas.{opens_on_left}
 use Rattle.script_run.proofs.ShownLemmas.{LogsShow, carried_safe, opened_logs_show, opens_again}
 use Rattle.script_run.proofs.SomeListsLemmas.{some_lists}
 
@@ -189,6 +190,7 @@ pub record RunSince {D : Type 0} (start : Lists) (script : Requests) (run : Run)
 pub record RunLeft {D : Type 0} (script : Requests) (old mid new : Option History) (first last : Faults) (s : StoreValue D) (ended : WorldValue D) : Type 0 where
   pub opened : IsStoreOpened old mid s
   pub reads : IfTold mid ReadsImage
+  pub reads_last : IfTold new ReadsImage
   pub show : LogsShow
   pub since : (start : Lists) → LogsShowLists s.map (indexes_of s.boxes) start → MayRead script start old → RunSince start script (beginning s.map opened.store.entries) (before_opening (seen_in s mid first) old) ended mid new last
   pub counts : HasCounted mid first ended new last
@@ -250,7 +252,7 @@ serves_run script old mid new first last s ended r given are start shows may =
     let w = r.since start shows may in
     let run : Run = and_events (beginning s.map r.opened.store.entries) w.added in
     let going = subst (λ (rs : List (Option Reply)). IsGoing start script run w.more w.broke rs from ended.store new last ended.rows) are w.is.going in
-    script_served start script run w.more w.broke given ended.journal from ended.began ended.store mid new last ended.rows going going.serving.stays_stopped r.later r.opened.drawn (opening_begins old mid s r.opened)
+    script_served start script run w.more w.broke given ended.journal from ended.began ended.store mid new last ended.rows going going.serving.stays_stopped r.later r.reads_last r.opened.drawn (opening_begins old mid s r.opened)
     (λ e. let i = going.serving.replied_stopped e in given_at given i.0 (reply.Refused refusal.Stopped) i.1) (r.made_is, w.later) w.is.entries
     w.refused
 
@@ -324,6 +326,7 @@ LanesBegin D = (start : Lists) (script : Requests) (run : Run) (rows : List Lane
 pub record ScriptRan {D : Type 0} (script : Requests) (old mid new : Option History) (first last : Faults) (s : StoreValue D) (world ended : WorldValue D) : Type 0 where
   pub opened : IsStoreOpened old mid s
   pub reads : IfTold mid ReadsImage
+  pub reads_last : IfTold new ReadsImage
   pub unused : HasNoTask s
   pub show : LogsShow
   pub fresh : AreFreshRows script world.rows
@@ -408,6 +411,7 @@ left_of_run : {D : Type 0} → (script : Requests) (old mid new : Option History
 left_of_run script old mid new first last s world ended r = record {
   opened = r.opened;
   reads = r.reads;
+  reads_last = r.reads_last;
   show = r.show;
   since = λ start shows may.
       let w = ended_world script old mid new first last s world ended r start shows may in
@@ -580,6 +584,7 @@ script_done script old mid new first last s world ended r =
           shows = λ lists shows may. (serves_run script old mid new first last s ended l g.0 g.1 lists shows may).1;
           means = λ lists shows may. refl;
           again = λ unstopped. opens_again new ended.store r.later (stopped_by script old mid new first last s ended l g.0 g.1 unstopped);
+          reopens = λ lists shows may at. let was = (serves_run script old mid new first last s ended l g.0 g.1 lists shows may).0 in opens_on_left lists was.journal was.broken new r.show (was.reads at);
           alike = alike_alone script old mid new first last s world ended r g.0 g.1;
           made = made_alone script old mid new first last s world ended r g.0 g.1;
           resynced = resynced_alone script old mid new first last s world ended r g.0 g.1;
@@ -598,12 +603,13 @@ abbrev pub AlsoUntraced : (D : Type 0) → Type 0
 AlsoUntraced D = (start : Lists) (script : Requests) (run : Run) (steps : List JournalStep) (failed : Broken) (began : Seen) (history : Option History) (faults : Faults) (world : WorldValue D) → IsWorldOf start script run steps failed began history faults world → IsWorldOf start script run steps failed began history faults (untraced world)
 
 -- What a script's run says of the opening, of the world and of its end: so it is done.
-pub script_ran : {D : Type 0} → (script : Requests) (lanes : ℕ) (parts : PartsValue) (old mid new : Option History) (first last : Faults) (s : StoreValue D) (world ended : WorldValue D) (turns : List ℕ) → (o : IsStoreOpened old mid s) → IfTold mid ReadsImage → HasNoTask s → LogsShow → ArePartsOf script lanes parts → IsFreshWorld s parts mid world
+pub script_ran : {D : Type 0} → (script : Requests) (lanes : ℕ) (parts : PartsValue) (old mid new : Option History) (first last : Faults) (s : StoreValue D) (world ended : WorldValue D) (turns : List ℕ) → (o : IsStoreOpened old mid s) → IfTold mid ReadsImage → IfTold new ReadsImage → HasNoTask s → LogsShow → ArePartsOf script lanes parts → IsFreshWorld s parts mid world
     → ((start : Lists) → MayRead script start old → LogsShowLists s.map (indexes_of s.boxes) start → (run : Run) → IsAtOpening run s → HasCome run s.map s.drawn (told_calls mid) → IsGoing start script run [] no_broken (unreplied script) (seen_in s mid first) s mid first parts.rows)
     → GoesOnInOrder turns (untraced world) ended mid new first last → (ended.began ≡ world.began) × (length ended.replies ≡ length world.replies) → ((i : ℕ) → i < length ended.replies → (given : Reply) × HasReply ended.replies i given) → AreIdle (lanes_of ended.rows) → IsStore new ended.store → WorldsBegin D → AlsoUntraced D → LanesEnd D → ScriptRan script old mid new first last s world ended
-script_ran script lanes parts old mid new first last s world ended turns o reads unused show are begun going goes keeps replied idle later begin unturned law = record {
+script_ran script lanes parts old mid new first last s world ended turns o reads last_read unused show are begun going goes keeps replied idle later begin unturned law = record {
   opened = o;
   reads = reads;
+  reads_last = last_read;
   unused = unused;
   show = show;
   fresh = subst (λ (rows : List LaneRow). AreFreshRows script rows) (sym (ap (λ (w : WorldValue _). w.rows) begun.2)) are.rows;
@@ -656,7 +662,7 @@ pub run_done : {D : Type 0} → (history : D → Option History) (faults : D →
 run_done {D} history faults script lanes old began world ended reads show begin world_begin end law unturned o went replied idle later =
     let kept = went_keeps history faults world ended law went in
     script_done script old (history s.disk) (history ended.store.disk) began (faults ended.store.disk) s world (untraced ended)
-    (script_ran script lanes o.parts old (history s.disk) (history ended.store.disk) began (faults ended.store.disk) s world (untraced ended) went.0 o.opened (reads s.disk) o.unclaimed show o.are o.begins going (went_from history faults script lanes old began world ended o went) (kept.began, kept.requests) replied idle later world_begin unturned end)
+    (script_ran script lanes o.parts old (history s.disk) (history ended.store.disk) began (faults ended.store.disk) s world (untraced ended) went.0 o.opened (reads s.disk) (reads ended.store.disk) o.unclaimed show o.are o.begins going (went_from history faults script lanes old began world ended o went) (kept.began, kept.requests) replied idle later world_begin unturned end)
   where
     s : StoreValue D
     s = o.store

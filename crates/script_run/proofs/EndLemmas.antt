@@ -7,6 +7,7 @@ use Rattle.disk_model.proofs.MomentLemmas.{each_image-map}
 use Rattle.mdbox_base.specs.declared.replies.Reply.{Reply}
 use Rattle.mdbox_base.specs.declared.script.JournalEntry.{JournalEntry}
 use Rattle.model_kept.specs.Kept.{MailIsKept}
+use Rattle.model_kept.proofs.KeptLemmas.{ReadsImage}
 use Rattle.model_lists.specs.Lists.{Lists}
 use Rattle.model_meaning.specs.MapMeaning.{MapMeaning, map_meaning}
 use Rattle.model_store.specs.Opening.{Opens}
@@ -27,6 +28,7 @@ use Rattle.lanes.specs.Rows.{LaneRow}
 use Rattle.lanes.specs.Worlds.{AreEntriesAt}
 use Rattle.script_run.specs.Opening.{LogsShowLists, RunBegins}
 use Rattle.script_run.specs.Script.{HasStopped, IsMadeBefore, IsRefusedAtOnce, ServesScript}
+use Rattle.script_run.proofs.EndImageLemmas.{reached_in_the_end}
 use Rattle.script_run.proofs.RunBeginsLemmas.{before_opening, first_map, run_ends}
 use Rattle.script_run.proofs.ShownLemmas.{opens_again}
 
@@ -82,10 +84,10 @@ unharmed (one ∷ rest) none = All-cons (λ (x : Reply). TellsDamage (refusal_in
 -- The script was served: its lanes have come to their end, the store is stopped only if a reply says so, and the entries are the
 -- journal's. The store shows what the journal leaves.
 unfoldable pub script_served : {D : Type 0} → (start : Lists) (script : Requests) (run : Run) (journal : List JournalStep) (broken : Broken) (given : List Reply) (entries : List JournalEntry) (began : Seen) (made : ℕ) (store : StoreValue D) (opened history : Option History) (faults : Faults) (rows : List LaneRow)
-    → IsGoing start script run journal broken (map Some given) began store history faults rows → StaysStopped run.events → IsStore history store → began.drawn ≡ began.map.highest → RunBegins run began.history → (store.stopped ≡ true → HasStopped given) → IsMadeBefore opened made run → AreEntriesAt history made (moment_of run) journal entries
+    → IsGoing start script run journal broken (map Some given) began store history faults rows → StaysStopped run.events → IsStore history store → IfTold history ReadsImage → began.drawn ≡ began.map.highest → RunBegins run began.history → (store.stopped ≡ true → HasStopped given) → IsMadeBefore opened made run → AreEntriesAt history made (moment_of run) journal entries
     → (All IsRefusedAtOnce run.events → IsIdle opened history)
     → (was : ServesScript script start given entries began.faults faults began.history opened history) × LogsShowLists store.map (indexes_of store.boxes) (left_by start was.journal)
-script_served {D} start script run journal broken given entries began made store opened history faults rows g stays k drawn begins stopped made_is are refused = (
+script_served {D} start script run journal broken given entries began made store opened history faults rows g stays k reads drawn begins stopped made_is are refused = (
   record {
     run = run;
     journal = journal;
@@ -113,6 +115,7 @@ script_served {D} start script run journal broken given entries began made store
       come = s.come.come;
     };
     crash = s.crash;
+    reads = λ at. reached_in_the_end start run journal broken began.history history reads s.come.come.moments (s.crash at) at;
     timely = s.timely;
     settled = λ unstopped. s.settled (runs unstopped);
     made_is = made_is;

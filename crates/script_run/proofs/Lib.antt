@@ -4,6 +4,7 @@ pub mod ChangeTaskLemmas
 pub mod CopyRunLemmas
 pub mod CopyTaskLemmas
 pub mod DoneLemmas
+pub mod EndImageLemmas
 pub mod EndLemmas
 pub mod LeftLemmas
 pub mod MailStaysLemmas
@@ -19,6 +20,7 @@ pub mod ReachedLemmas
 pub mod ReachedMakeLemmas
 pub mod ReachedMoveLemmas
 pub mod ReachedSaveLemmas
+pub mod ReopenedLemmas
 pub mod ResyncTaskLemmas
 pub mod RunBeginsLemmas
 pub mod SealedLemmas

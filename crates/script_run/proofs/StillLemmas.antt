@@ -10,6 +10,7 @@ use Rattle.store_open.specs.Opened.{HasNoLogDue, IsClosedWell, Opening}
 use Rattle.store_open.specs.declared.error.OpenError.TheVariants as error
 use Rattle.store_open.proofs.SweptStoreLemmas.{carries-idle, idle_safe}
 use Rattle.store_sweep.specs.Moments.{IdleIf}
+use Rattle.script_run.proofs.DoneLemmas.{settled_safe}
 use Rattle.script_run.specs.Opening.{IsUnopened}
 
 untouched : (history : Option History) → IdleUnless Opening history history
@@ -29,6 +30,7 @@ unopened_still history faults = record {
   stays = λ store entries logs opens. mail_still (map_meaning store entries) history;
   closed_well = still_if IsClosedWell history;
   moments = λ lists at. idle_safe lists history history (idle-begins history) at;
+  safe = λ lists at. settled_safe lists history at;
   settled_again = λ no lists at. at;
   carried = λ no. carries-idle history history (idle-begins history);
   fault = record { reads = omega arith; changes = omega arith; rose = λ e. absurd (cc e) };

@@ -1,21 +1,16 @@
 -- A store that is as the opening left it, and a request alone that only reads.
-use Rattle.std.specs.Prelude.{◌≡◌, ℕ, Bool, true, false, not, ◌||◌, List, [], ◌∷◌, length, All, Option, Some, None}
-use Rattle.std.specs.List.{AllByRecursion}
-use Rattle.std.proofs.Common.{refl, sym, ◌∙◌, ap, suc, subst, inl}
-use Rattle.disk_model.specs.Disk.{Between, DiskState, EachImage, Faults, Files, History, IsIdle, SameState}
+use Rattle.std.specs.Prelude.{◌≡◌, ℕ, Bool, true, false, not, ◌||◌, List, [], ◌∷◌, Option, Some, None}
+use Rattle.std.proofs.Common.{refl, sym, ◌∙◌, ap, subst, inl}
+use Rattle.disk_model.specs.Disk.{Between, DiskState, EachImage, Faults, History, IsIdle, SameState}
 use Rattle.disk_model.proofs.IdleLemmas.{idle-then, same_state-on}
 use Rattle.disk_model.proofs.MomentLemmas.{each_image-map, if_told-map}
-use Rattle.mdbox_base.specs.declared.entries.BoxEntry.{BoxEntry}
-use Rattle.mdbox_base.specs.declared.entries.MapEntry.{MapEntry}
 use Rattle.mdbox_base.specs.declared.replies.Reply.{Reply}
 use Rattle.mdbox_base.specs.declared.requests.Request.{Request}
 use Rattle.mdbox_base.specs.declared.script.JournalEntry.{JournalEntry}
 use Rattle.model_lists.specs.Lists.{Lists}
 use Rattle.model_meaning.proofs.SameMeaningLemmas.{means_along, means_back}
-use Rattle.model_meaning.specs.BoxMeaning.{BoxMeaning, rows_after}
-use Rattle.model_meaning.specs.MapMeaning.{MapBox, MapMeaning, map_meaning}
-use Rattle.model_store.specs.GoodLogs.{AreGoodLogs}
-use Rattle.model_store.specs.Opening.{AreBoxEntries, HasItsRecord, Opens, PassBoxes}
+use Rattle.model_meaning.specs.BoxMeaning.{BoxMeaning}
+use Rattle.model_meaning.specs.MapMeaning.{MapMeaning, map_meaning}
 use Rattle.model_store.specs.Safe.{Safe}
 use Rattle.model_store.specs.Settled.{IsSettledFor, files_of}
 use Rattle.store_open.specs.Opened.{IsClosedWell, IsOpenedAs, StoreCarries}
@@ -27,6 +22,7 @@ use Rattle.script_run.specs.One.{OpensUnchanged, alone}
 use Rattle.script_run.specs.Script.{HasStopped, has_change, only_reads}
 use Rattle.script_run.proofs.AloneLemmas.{leaves_lists, left_still, reached_still, reads_leave}
 use Rattle.script_run.proofs.DoneLemmas.{settled_safe}
+use Rattle.script_run.proofs.ReopenedLemmas.{good_opened}
 
 -- ---- what is the same since
 
@@ -35,36 +31,6 @@ between_same R None b c r s = subst (λ (h : Option History). SameState h c) r s
 between_same R (Some a) None c r s = absurd r
 between_same R (Some a) (Some b) None r s = absurd s
 between_same R (Some a) (Some b) (Some c) r s = subst (λ (d : DiskState). R a.now d) (sym s) r
-
--- the logs with which files open are good
-as_many : (files : Files) (m : MapMeaning) (boxes : List MapBox) (logs : List (List BoxEntry)) → PassBoxes files m boxes logs → length logs ≡ length boxes
-as_many files m [] [] p = refl
-as_many files m [] (log ∷ logs) p = absurd p
-as_many files m (box ∷ boxes) [] p = absurd p
-as_many files m (box ∷ boxes) (log ∷ logs) p = ap suc (as_many files m boxes logs p.1)
-
-all_entries : (files : Files) (m : MapMeaning) (boxes : List MapBox) (logs : List (List BoxEntry)) → PassBoxes files m boxes logs → AllByRecursion AreBoxEntries logs
-all_entries files m [] [] p = tt
-all_entries files m [] (log ∷ logs) p = absurd p
-all_entries files m (box ∷ boxes) [] p = absurd p
-all_entries files m (box ∷ boxes) (log ∷ logs) p = ((p.0.log.in_range, p.0.log.fit), all_entries files m boxes logs p.1)
-
-all_records : (files : Files) (m : MapMeaning) (boxes : List MapBox) (logs : List (List BoxEntry)) → PassBoxes files m boxes logs → AllByRecursion (λ log. All (HasItsRecord m) (rows_after log)) logs
-all_records files m [] [] p = tt
-all_records files m [] (log ∷ logs) p = absurd p
-all_records files m (box ∷ boxes) [] p = absurd p
-all_records files m (box ∷ boxes) (log ∷ logs) p = (p.0.records, all_records files m boxes logs p.1)
-
-good_opened : (files : Files) (store : List ℕ) (entries : List MapEntry) (logs : List (List BoxEntry)) → Opens files store entries logs → AreGoodLogs store entries logs
-good_opened files store entries logs o =
-    let m : MapMeaning = map_meaning store entries in
-    record {
-      map_entries = (o.passed.map_log.in_range, o.passed.map_log.fit);
-      box_entries = all_entries files m m.boxes logs o.passed.boxes;
-      one_each = as_many files m m.boxes logs o.passed.boxes;
-      records = all_records files m m.boxes logs o.passed.boxes;
-      counts = o.counts;
-    }
 
 -- they open again, with logs that mean the same
 still_opened : (old new : Option History) (m : MapMeaning) (meanings : List BoxMeaning) → IsOpenedAs old m meanings → StoreCarries old new → IsOpenedAs new m meanings

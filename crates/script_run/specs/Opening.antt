@@ -51,10 +51,10 @@ RunHasCome run m new = IfTold new (λ disk. (entries : List MapEntry) × (logs :
 abbrev pub StaysSettled : Option History → Option History → Type 0
 StaysSettled old new = (lists : Lists) → IsSettledFor lists old → IsSettledFor lists new
 
--- The store was not opened. Each crash image of a settled disk is safe for its lists; unless a change failed, it is settled
--- for them again, and the store opens again with logs that mean the same and the same mail, with all that was read where no log was
--- due to be written anew. At each moment storage files and instances stayed. A store that was closed well was left as it is, and so
--- was every disk unless the device failed, or there was no memory and a log was due.
+-- The store was not opened. Each crash image of a settled disk is safe for its lists, and so are its files as they read in the end,
+-- also after a change that failed; unless one did, it is settled for them again, and the store opens again with logs that mean the same
+-- and the same mail, with all that was read where no log was due to be written anew. At each moment storage files and instances stayed.
+-- A store that was closed well was left as it is, and so was every disk unless the device failed, or there was no memory and a log was due.
 pub record IsUnopened (why : OpenError) (old new : Option History) (began now : Faults) : Type 0 where
   pub cause : IsOpeningError old why
   pub idle : (why ≡ error.DiskFault → ⊥) → (why ≡ error.NoMemory → ⊥) → IsIdle old new
@@ -63,6 +63,7 @@ pub record IsUnopened (why : OpenError) (old new : Option History) (began now : 
   pub stays : KeepsOpenedMail old new
   pub closed_well : IdleIf IsClosedWell old new
   pub moments : (lists : Lists) → IsSettledFor lists old → EachImage (λ _ image. Safe image lists) old new
+  pub safe : (lists : Lists) → IsSettledFor lists old → AreSafeFor lists new
   pub settled_again : NoFailedChange (why ≡ error.DiskFault) began now → StaysSettled old new
   pub carried : NoFailedChange (why ≡ error.DiskFault) began now → StoreCarries old new
   pub fault : AnyFaultCounted (why ≡ error.DiskFault) began now

@@ -1,5 +1,5 @@
 -- What a script makes of a store.
-use Rattle.std.specs.Prelude.{◌≡◌, ◌≤◌, ℕ, Bool, true, false, not, List, All, Option, Some, Contains, map}
+use Rattle.std.specs.Prelude.{◌≡◌, ◌≤◌, ◌⊎◌, ℕ, Bool, true, false, not, List, All, Option, Some, Contains, map}
 use Rattle.std.specs.List.{list_any}
 use Rattle.disk_model.specs.Disk.{told_calls, History, Faults, EachImage, IsIdle, IsMoment}
 use Rattle.mdbox_base.specs.declared.entries.Highest.{Highest}
@@ -21,7 +21,7 @@ use Rattle.journal.specs.Makes.{IsServed}
 use Rattle.store_open.specs.Opened.{IsOpenedAs}
 use Rattle.task_steps.specs.Serves.{AreTimely, IsReached}
 use Rattle.lanes.specs.Worlds.{AreEntriesAt}
-use Rattle.script_run.specs.Opening.{LogsShowLists, RunBegins, RunHasCome}
+use Rattle.script_run.specs.Opening.{AreSafeFor, LogsShowLists, RunBegins, RunHasCome}
 
 -- some request was replied that the store is stopped
 abbrev pub HasStopped : List Reply → Type 0
@@ -66,10 +66,12 @@ has_purge script = list_any (λ asked. is_purge asked.1) script
 -- From these lists a script was served legally, by a run that begins with the map log of the files, and each request has its reply.
 -- The run has come to where the disk is now: unless a change of it failed, to what its map log means,
 -- and its logs show what the journal leaves; and to its number of calls, so that by now every step is acknowledged. Of a disk that was
--- settled for the lists each crash image since is safe for lists that the journal reaches; at the moment of each event it was settled for
--- what the steps up to it left; and it is settled for the lists that the journal leaves, unless a change of it failed. The entries are
--- those of the journal's steps, in order, of a world that was made after so many calls, which is the number of its calls as the store was
--- open. Where each event answered its request with a refusal, but for want of memory or by a failed call, nothing has changed since then.
+-- settled for the lists each crash image since is safe for lists that the journal reaches. So are its files as they read in the end, also
+-- after a change that failed: for the lists that the journal leaves, or for those that the broken steps leave behind it. At the moment of
+-- each event it was settled for what the steps up to it left; and it is settled for the lists that the journal leaves, unless a change of
+-- it failed. The entries are those of the journal's steps, in order, of a world that was made after so many calls, which is the number of
+-- its calls as the store was open. Where each event answered its request with a refusal, but for want of memory or by a failed call,
+-- nothing has changed since then.
 pub record ServesScript (script : Requests) (lists : Lists) (given : List Reply) (entries : List JournalEntry) (began now : Faults) (old opened new : Option History) : Type 0 where
   pub run : Run
   pub journal : List JournalStep
@@ -82,6 +84,7 @@ pub record ServesScript (script : Requests) (lists : Lists) (given : List Reply)
   pub shows : (HasStopped given → ⊥) → OpensShowing m (left_by lists journal) new
   pub served : IsServed lists script run journal broken (map Some given) began now (map_meaning run.store run.start) m drawn (told_calls new)
   pub crash : IsSettledFor lists old → EachImage (IsReached lists run journal broken) old new
+  pub reads : IsSettledFor lists old → AreSafeFor (left_by lists journal) new ⊎ AreSafeFor (left_by (left_by lists journal) broken.steps) new
   pub timely : IsSettledFor lists old → AreTimely lists run journal new
   pub settled : (HasStopped given → ⊥) → IsSettledFor lists old → IsSettledFor (left_by lists journal) new
   pub made_is : IsMadeBefore opened made run

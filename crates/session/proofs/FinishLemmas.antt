@@ -70,6 +70,7 @@ session_finished {D} history faults old parts s world new final turns o reads sh
     (record {
       opened = o;
       reads = reads s.disk;
+      reads_last = reads final.store.disk;
       show = show;
       fresh = are.rows;
       unturned = refl;

@@ -58,6 +58,7 @@ no_rounds last (lane ∷ turns) new final before after first second each g = abs
 pub record SessionEnded {D : Type 0} (history : D → Option History) (faults : D → Faults) (old : Option History) (world new final : WorldValue D) : Type 0 where
   pub opened : IsStoreOpened old (history world.store.disk) world.store
   pub reads : IfTold (history world.store.disk) ReadsImage
+  pub reads_last : IfTold (history final.store.disk) ReadsImage
   pub show : LogsShow
   pub fresh : AreFreshRows [] world.rows
   pub unturned : world.turns ≡ []
@@ -193,6 +194,7 @@ module _ {D : Type 0} (history : D → Option History) (faults : D → Faults) (
       left_of_session history faults (asked_in moves) old world new final (record {
         opened = e.opened;
         reads = e.reads;
+        reads_last = e.reads_last;
         show = e.show;
         fresh = e.fresh;
         unturned = e.unturned;

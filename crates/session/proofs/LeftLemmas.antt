@@ -46,6 +46,7 @@ use Rattle.session.proofs.ChainLemmas.{Finds, calm_asked, counted_asked, reads_a
 pub record SessionRan {D : Type 0} (history : D → Option History) (faults : D → Faults) (script : Requests) (old : Option History) (world mid ended : WorldValue D) : Type 0 where
   pub opened : IsStoreOpened old (history world.store.disk) world.store
   pub reads : IfTold (history world.store.disk) ReadsImage
+  pub reads_last : IfTold (history ended.store.disk) ReadsImage
   pub show : LogsShow
   pub fresh : AreFreshRows [] world.rows
   pub unturned : world.turns ≡ []
@@ -189,6 +190,7 @@ module _ {D : Type 0} (history : D → Option History) (faults : D → Faults) (
   left_of_session = record {
     opened = r.opened;
     reads = r.reads;
+    reads_last = r.reads_last;
     show = r.show;
     since = since_run;
     counts = counted_last;

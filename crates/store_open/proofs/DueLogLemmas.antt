@@ -3,13 +3,8 @@ use Rattle.std.proofs.Common.{◌≡◌, ◌⊎◌, inl, inr, ℕ, Bool, true, f
 use Rattle.std.specs.Prelude.{◌↔◌, IfErr, IfOk, IsErrOf}
 use Rattle.std.proofs.lemmas.Bool.{cases_Bool}
 use Rattle.box_snapshot.specs.Due.{NoLogDue}
-<<<<<<< HEAD
-use Rattle.box_snapshot.specs.Rewrites.{AreNamesSynced, LeavesNoOldLogs, SyncsMailNames}
-use Rattle.disk_model.proofs.BetweenLemmas.{between-map, between-then}
-=======
-use Rattle.box_snapshot.specs.Rewrites.{AreNamesSynced, LeavesNoOldLogs, SyncsMail}
+use Rattle.box_snapshot.specs.Rewrites.{AreNamesSynced, LeavesNoOldLogs, Rewrites, SyncsMailNames}
 use Rattle.disk_model.proofs.BetweenLemmas.{between-back, between-if, between-map, between-then}
->>>>>>> origin/undue
 use Rattle.disk_model.proofs.MomentLemmas.{each_image-then, if_told-both}
 use Rattle.disk_model.specs.Disk.{Between, DiskState, EachImage, Faults, Files, History, IfTold}
 use Rattle.disk_model.specs.FaultCounts.{NoFault, ChangeFaultCounted}
@@ -20,7 +15,6 @@ use Rattle.model_kept.proofs.KeptLemmas.{ReadsImage, kept_then}
 use Rattle.model_kept.specs.Kept.{MailIsKept}
 use Rattle.model_lists.specs.Lists.{Lists}
 use Rattle.model_logs.specs.declared.log_head.LogHead.{LogHead}
-use Rattle.model_meaning.specs.BoxMeaning.{BoxMeaning}
 use Rattle.model_meaning.specs.MapMeaning.{MapMeaning, map_meaning}
 use Rattle.model_rewritten.specs.CarriedStore.{CarriesStore}
 use Rattle.model_store.proofs.StandsLemmas.{root_same}
@@ -36,7 +30,7 @@ use Rattle.store_core.specs.declared.error.StepError.TheVariants as step_error
 use Rattle.store_files.specs.Found.{IsFoundFiles}
 use Rattle.store_instances.specs.FoundInstances.{IsFoundInstances}
 use Rattle.store_open.proofs.CheckedLemmas.{OpensAt}
-use Rattle.store_open.proofs.RewrittenLemmas.{CarriesStores, carries_written, files_same, instances_same, opened_same, shows_same, undue_carried, undue_opened}
+use Rattle.store_open.proofs.RewrittenLemmas.{files_same, instances_same, opened_same, shows_same, undue_carried, undue_opened}
 use Rattle.store_open.proofs.RewrittenSweepLemmas.{AllWanted, IsWrittenDisk, NoOthers, names_synced, swept_written, unneeded_gone}
 use Rattle.store_open.proofs.StillOpensLemmas.{carries_own}
 use Rattle.store_open.specs.Opened.{CarriesAll, CarriesOpened, HasNoLogDue, IsClosedWell, IsFaulted, IsOpenedAs, StoreCarries, disk_of}
@@ -101,7 +95,15 @@ shows_anew h old r first w shows =
 abbrev pub CarriesOn : Type 0
 CarriesOn = (a b c : Files) (store : List ℕ) (entries : List MapEntry) (logs : List (List BoxEntry)) → (s : CarriesStore store entries logs a b) → CarriesStore store s.later s.later_logs b c → CarriesStore store entries logs a c
 
--- the files open again, and where no log was due nothing has changed
+-- whatever store the files opened with, they open again
+abbrev pub CarriesStores : DiskState → DiskState → Type 0
+CarriesStores a b = (store : List ℕ) (entries : List MapEntry) (logs : List (List BoxEntry)) → Opens (files_of a) store entries logs → CarriesStore store entries logs (files_of a) (files_of b)
+
+-- the law of stores whose logs were written anew
+abbrev pub OpenAgain : {D : Type 0} → (D → Option History) → Type 0
+OpenAgain {D} h = (old new : StoreValue D) → Rewrites h old new → IsStore (h old.disk) old → IsStore (h new.disk) new → old.stopped ≡ false → new.stopped ≡ false → Between CarriesStores (h old.disk) (h new.disk)
+
+-- then where no log was due nothing has changed
 record WritesDue (a b : DiskState) : Type 0 where
   again : CarriesStores a b
   same : HasNoLogDue a → b ≡ a
@@ -121,10 +123,10 @@ all_then on a b c all due = record {
   undue = λ none store entries logs o. subst (λ (d : DiskState). CarryOver o.passed.map_log.generation (map_meaning store entries) (files_of a) (files_of d)) (sym (due.same (undue_carried a b store entries logs o all none))) (all store entries logs o);
 }
 
-pub carried_anew : {D : Type 0} → (h : D → Option History) (old : StoreValue D) (r : Answer D) (first : Option History) → CarriesOn → (w : WritesDueLogs h old r) → old.stopped ≡ false → w.new.stopped ≡ false → (NoLogDue old → r ≡ Ok old) → Between CarriesAll first (h old.disk) → StoreCarries first (h (disk_of r))
-carried_anew {D} h old r first on w runs goes idle before =
+pub carried_anew : {D : Type 0} → (h : D → Option History) (old : StoreValue D) (r : Answer D) (first : Option History) → CarriesOn → OpenAgain h → (w : WritesDueLogs h old r) → old.stopped ≡ false → w.new.stopped ≡ false → (NoLogDue old → r ≡ Ok old) → Between CarriesAll first (h old.disk) → StoreCarries first (h (disk_of r))
+carried_anew {D} h old r first on law w runs goes idle before =
     let again : Between CarriesStores (h old.disk) (h (disk_of r)) =
-    subst (λ (d : D). Between CarriesStores (h old.disk) (h d)) (sym w.disk) (carries_written (h old.disk) (h w.new.disk) old w.new w.was w.is runs goes w.rewrites.means w.rewrites.indexes (w.rewrites.mail goes)) in
+    subst (λ (d : D). Between CarriesStores (h old.disk) (h d)) (sym w.disk) (law old w.new w.rewrites w.was w.is runs goes) in
     between-then CarriesAll WritesDue CarriesOpened first (h old.disk) (h (disk_of r)) (all_then on) before
     (writes_due (h old.disk) (h (disk_of r)) old w.was runs (λ undue. ap (λ (a : Answer D). h (disk_of a)) (idle undue)) again)
 

@@ -1,16 +1,10 @@
 -- A store whose logs were written anew, by what its map and its logs mean.
-use Rattle.std.proofs.Common.{◌≡◌, ℕ, false, List, [], ◌∷◌, length, map, Option, Some, None, All, sym, ◌∙◌, ap, subst}
+use Rattle.std.proofs.Common.{◌≡◌, ℕ, false, List, [], ◌∷◌, length, map, Option, Some, All, sym, ◌∙◌, ap, subst}
 use Rattle.std.specs.List.{AllZip}
 use Rattle.std.proofs.lemmas.List.{length-map}
 use Rattle.std.proofs.lemmas.List.Elements.{All-nil, All-cons}
 use Rattle.box_snapshot.specs.Due.{NoLogDue, is_box_due, is_log_due, needs_of_box, needs_of_map}
-<<<<<<< HEAD
-use Rattle.box_snapshot.specs.Rewrites.{SyncsMailNames}
-use Rattle.disk_model.specs.Disk.{History, Between, IfTold}
-=======
-use Rattle.box_snapshot.specs.Rewrites.{SyncsMail}
-use Rattle.disk_model.specs.Disk.{DiskState, History, Between, IfTold}
->>>>>>> origin/undue
+use Rattle.disk_model.specs.Disk.{DiskState, History, IfTold}
 use Rattle.mdbox_base.specs.declared.entries.BoxEntry.{BoxEntry}
 use Rattle.mdbox_base.specs.declared.entries.Highest.{Highest}
 use Rattle.mdbox_base.specs.declared.entries.MapEntry.{MapEntry}
@@ -21,7 +15,6 @@ use Rattle.model_meaning.proofs.SameMeaningLemmas.{means_along}
 use Rattle.model_meaning.specs.BoxMeaning.{BoxMeaning, box_meaning}
 use Rattle.model_meaning.specs.MapMeaning.{MapBox, MapMeaning, MapRecord, map_meaning}
 use Rattle.model_meaning.specs.SameMeaning.{MeansSame}
-use Rattle.model_rewritten.specs.CarriedStore.{CarriesStore}
 use Rattle.model_store.proofs.OpeningLemmas.{one_store}
 use Rattle.model_store.proofs.StandsLemmas.{root_same}
 use Rattle.model_store.specs.GoodLogs.{AreGoodLogs}
@@ -30,14 +23,12 @@ use Rattle.model_store.specs.Opening.{Opens}
 use Rattle.model_store.specs.Settled.{files_of}
 use Rattle.sis_store.specs.Instances.{InstancesValue}
 use Rattle.storage_files.specs.Files.{FilesValue}
-use Rattle.store_core.specs.Running.{AreBoxLogs, IsRunning, IsStore, ReadBoxLogs}
+use Rattle.store_core.specs.Running.{AreBoxLogs, IsStore, ReadBoxLogs}
 use Rattle.store_core.specs.Value.{StoreValue, indexes_of}
 use Rattle.store_core.specs.declared.store.OpenBox.{OpenBox}
 use Rattle.store_files.specs.Found.{IsFoundFiles}
 use Rattle.store_instances.specs.FoundInstances.{IsFoundInstances}
 use Rattle.store_open.proofs.StillOpensLemmas.{opens_along}
-use Rattle.store_open.proofs.SweptStoreLemmas.{carry_self}
-use Rattle.store_open.proofs.SyncedMailLemmas.{mail_on}
 use Rattle.store_open.specs.Opened.{AreUndue, CarriesAll, HasNoLogDue, IsBoxUndue, IsOpenedAs}
 
 -- ---- maps that mean the same
@@ -106,42 +97,6 @@ shows_boxes (b ∷ bs) (o ∷ os) (m ∷ ms) (l ∷ ls) numbers names h =
 
 pub shows_same : (m n : MapMeaning) (before now : List BoxMeaning) (lists : Lists) → MeansSame m n → now ≡ before → ShowLists m.boxes before lists → ShowLists n.boxes now lists
 shows_same m n before now lists same are h = subst (λ (ms : List BoxMeaning). ShowLists n.boxes ms lists) (sym are) (shows_boxes m.boxes n.boxes before lists same.numbers same.names h)
-
--- ---- what the store carries
-
-carried_as : {D : Type 0} → (a b : History) (old new : StoreValue D) → (s : IsStore (Some a) old) → (t : IsStore (Some b) new) → (r : IsRunning (Some a) s.generation old s.entries s.logs) → IsRunning (Some b) t.generation new t.entries t.logs
-    → MeansSame old.map new.map → indexes_of new.boxes ≡ indexes_of old.boxes → SyncsMailNames a.now b.now → CarriesStore old.map.store s.entries s.logs (files_of a.now) (files_of b.now)
-carried_as a b old new s t r q same are mail =
-    let id : List ℕ = old.map.store in
-    let before : MapMeaning = map_meaning id s.entries in
-    let own = carry_self a.now id s.entries s.logs r.opens in
-    record {
-      later = t.entries;
-      later_logs = t.logs;
-      opens = subst (λ (i : List ℕ). Opens (files_of b.now) i t.entries t.logs) same.store q.opens;
-      means = subst (λ (i : List ℕ). MeansSame before (map_meaning i t.entries)) same.store (subst (λ (m : MapMeaning). MeansSame before m) t.map_is (subst (λ (m : MapMeaning). MeansSame m new.map) s.map_is same));
-      boxes = sym t.boxes_are ∙ are ∙ s.boxes_are;
-      mail = mail_on before (files_of a.now) a.now b.now mail (record { regions = own.regions; instances = own.instances });
-    }
-
--- whatever store the files opened with, they open again
-abbrev pub CarriesStores : DiskState → DiskState → Type 0
-CarriesStores a b = (store : List ℕ) (entries : List MapEntry) (logs : List (List BoxEntry)) → Opens (files_of a) store entries logs → CarriesStore store entries logs (files_of a) (files_of b)
-
-pub carries_written : {D : Type 0} → (a b : Option History) (old new : StoreValue D) → IsStore a old → IsStore b new → old.stopped ≡ false → new.stopped ≡ false → MeansSame old.map new.map → indexes_of new.boxes ≡ indexes_of old.boxes
-<<<<<<< HEAD
-    → Between SyncsMailNames a b → StoreCarries a b
-=======
-    → Between SyncsMail a b → Between CarriesStores a b
->>>>>>> origin/undue
-carries_written None b old new s t runs goes same are mail = mail
-carries_written (Some a) None old new s t runs goes same are mail = mail
-carries_written (Some a) (Some b) old new s t runs goes same are mail = λ store entries logs o.
-    let c = carried_as a b old new s t (s.running runs) (t.running goes) same are mail in
-    let e = one_store (files_of a.now) old.map.store store s.entries entries s.logs logs (s.running runs).opens o in
-    subst (λ (ls : List (List BoxEntry)). CarriesStore store entries ls (files_of a.now) (files_of b.now)) e.2
-    (subst (λ (es : List MapEntry). CarriesStore store es s.logs (files_of a.now) (files_of b.now)) e.1
-    (subst (λ (i : List ℕ). CarriesStore i s.entries s.logs (files_of a.now) (files_of b.now)) e.0 c))
 
 -- ---- a store whose files have no log that is due has none
 

@@ -20,7 +20,7 @@ ghost use Rattle.store_sweep.specs.Moments.{NoFailedChange, IdleIf};
 ghost use Rattle.store_sweep.specs.Swept.{IsSwept};
 
 use crate::error::{OpenError, OpenRefused};
-use box_snapshot::snapshot_due;
+use box_snapshot::{rewritten_stores_open_again, snapshot_due};
 use disk_model::Disk;
 use model_meaning::meanings_are_sound;
 use model_rewritten::rewritten_stores_are_safe;
@@ -108,6 +108,7 @@ pub fn open_store<D: Disk>(alloc: Global, disk: D, lanes: u32) -> Result<Store<D
             },
         ) => {
             rewritten_stores_are_safe();
+            rewritten_stores_open_again::<D>();
             write_due_logs(Store::of(alloc, disk, logs, files, instances, room, lanes))
         }
         Err(error) => Err(OpenRefused { error, disk }),

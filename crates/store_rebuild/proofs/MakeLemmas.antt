@@ -8,7 +8,7 @@ use Rattle.disk_model.specs.declared.name.FileName.{FileName}
 use Rattle.disk_model.specs.declared.name.FileName.TheVariants as file
 use Rattle.disk_model.proofs.BetweenLemmas.{between-map, between-then}
 use Rattle.disk_model.proofs.IdleLemmas.{idle-images}
-use Rattle.disk_model.proofs.MomentLemmas.{each_image-map, each_image-then, if_told-all, if_told-map}
+use Rattle.disk_model.proofs.MomentLemmas.{each_image-map, each_image-then, if_told-all, if_told-map, since-now}
 use Rattle.mdbox_base.specs.declared.entries.InstRow.{InstRow}
 use Rattle.model_rebuild.specs.RebuildMoments.{IsBeforeLogs, IsLeftByRebuild, IsOldButForRoot, KeepsMessage, KeepsOld}
 use Rattle.model_rebuild.specs.RebuildPlan.{IsPlanFor, RebuildPlan}
@@ -25,7 +25,7 @@ use Rattle.rebuild_files.specs.declared.error.RebuildError.TheVariants as rebuil
 use Rattle.rebuild_judge.specs.Kept.{taken_row}
 use Rattle.rebuild_judge.specs.declared.taken.TakenRow.{TakenRow}
 use Rattle.store_rebuild.specs.Planned.{AreRowsOf, IsPlanned}
-use Rattle.store_rebuild.specs.Rebuilding.{IsLeftOf, LeavesRebuild, LeavesWhole}
+use Rattle.store_rebuild.specs.Rebuilding.{IsLeftOf, LeavesRebuild, LeavesWhole, ReadsAsRebuildLeaves}
 use Rattle.store_rebuild.specs.Writing.{AreFilesSynced, AreFilesThere, HasNewStore, HasStoreOf, IsInstanceThere, IsNewLog, IsOnlySynced, IsReady, IsRootless, IsFileSynced, MailReadsSame, OthersReadSame}
 use Rattle.store_rebuild.specs.declared.plan.RebuildRows.{RebuildRows}
 use Rattle.store_rebuild.proofs.FileLemmas.{named_reads, synced_keeps}
@@ -173,3 +173,9 @@ idle_whole old new idle = if_told-all _ old (λ disk w. idle)
 
 pub lost_whole : (old new : Option History) → IfTold old (λ disk. IsStoreWhole (files_of disk) → ⊥) → LeavesWhole old new
 lost_whole old new lost = if_told-map _ _ old (λ disk none w. absurd (none w)) lost
+
+-- What holds of each crash image holds of what the disk reads, since that is one.
+pub reads_left : (old new : Option History) → LeavesRebuild old new → IfTold new (λ state. IsImage state (λ name. reading (state name))) → ReadsAsRebuildLeaves old new
+reads_left None new each reads = tt
+reads_left (Some o) None each reads = tt
+reads_left (Some o) (Some n) each reads = since-now (λ _ image. IsLeftOf o.now image) o n each (files_of n.now) reads

@@ -37,6 +37,10 @@ IsLeftOf first image = IsOldButForRoot first image ⊎ ((taken : List TakenMessa
 abbrev pub LeavesRebuild : Option History → Option History → Type 0
 LeavesRebuild old new = IfTold old (λ first. EachImage (λ _ image. IsLeftOf first image) old new)
 
+-- The files read as a crash may leave them.
+abbrev pub ReadsAsRebuildLeaves : Option History → Option History → Type 0
+ReadsAsRebuildLeaves old new = IfTold old (λ first. IfTold new (λ now. IsLeftOf first (files_of now)))
+
 -- If the store opens as it is, nothing has changed.
 abbrev pub LeavesWhole : Option History → Option History → Type 0
 LeavesWhole old new = IfTold old (λ first. IsStoreWhole (files_of first) → IsIdle old new)

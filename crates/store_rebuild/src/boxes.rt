@@ -1,5 +1,5 @@
 // The logs of the mailboxes of a rebuilt store.
-ghost use Rattle.std.specs.Prelude.{◌≡◌, ◌+◌, ◌<◌, ◌^◌, [], List, length, map, IfOk};
+ghost use Rattle.std.specs.Prelude.{◌≡◌, ◌+◌, ◌<◌, ◌^◌, [], List, length, map, IfOk, IsErr};
 ghost use Rattle.mdbox_base.specs.declared.entries.BoxEntry.TheVariants as entry;
 ghost use Rattle.model_logs.specs.Entries.{BoxInRange, box_text};
 ghost use Rattle.model_rebuild.specs.RebuiltLogs.{rebuilt_box};
@@ -84,7 +84,8 @@ fn added(alloc: Global, uid: u32, map_uid: u32, time: u64, size: u32, guid: Guid
 
 /// The number behind this one. The greatest of its type has none.
 pub fn next_number(number: u32) -> Result<u32, NoMemory>
-    ensures { IfOk result (λ next. next ≡ number + 1) }
+    ensures next { IfOk result (λ next. next ≡ number + 1) }
+    ensures fits { number < 4294967295 → IsErr result → ⊥ }
 {
     match number.checked_add(1) {
         Some(next) => Ok(next),

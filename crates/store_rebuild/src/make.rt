@@ -7,7 +7,7 @@ ghost use Rattle.rebuild_files.specs.Refused.{IsNotLost, IsStoreWhole};
 ghost use Rattle.model_rebuild.specs.RebuildPlan.{RebuildPlan};
 ghost use Rattle.store_rebuild.specs.NewLogs.{AreNewLogs};
 ghost use Rattle.store_rebuild.specs.Planned.{AreRowsOf, IsPlanned};
-ghost use Rattle.store_rebuild.specs.Rebuilding.{IsDiskFault, IsRebuilt, LeavesRebuild, LeavesWhole, disk_behind};
+ghost use Rattle.store_rebuild.specs.Rebuilding.{IsDiskFault, IsRebuilt, LeavesRebuild, LeavesWhole, ReadsAsRebuildLeaves, disk_behind};
 ghost use Rattle.store_rebuild.specs.Writing.{HasStoreOf, MailReadsSame, OthersReadSame};
 
 use crate::logs::write_logs;
@@ -38,6 +38,9 @@ pub fn rebuild<D: Disk>(
     // At every moment of the call, whatever fails, a crash leaves files as they were at the beginning, with or without the root log; or
     // no store; or files that are safe for the rebuilt lists. Storage files and instances are always as a crash at the beginning may leave them.
     ensures any_moment { LeavesRebuild (D.history disk) (D.history (disk_behind result)) }
+
+    // So the files read then, whatever is answered.
+    ensures reads { ReadsAsRebuildLeaves (D.history disk) (D.history (disk_behind result)) }
 
     // A store that opens is refused, and no other.
     ensures refused { IfErr result (λ refused. IsNotLost (D.history disk) refused.error) }

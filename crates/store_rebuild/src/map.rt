@@ -1,5 +1,5 @@
 // The map log of a rebuilt store.
-ghost use Rattle.std.specs.Prelude.{◌≡◌, ◌<◌, ◌++◌, ◌∷◌, List, map, All, AllPairs, IfOk};
+ghost use Rattle.std.specs.Prelude.{◌≡◌, ◌<◌, ◌≤◌, ◌++◌, ◌∷◌, List, length, map, All, AllPairs, IfOk, IsErr};
 ghost use Rattle.mdbox_base.specs.declared.entries.MapEntry.TheVariants as entry;
 ghost use Rattle.model_logs.specs.Entries.{MapInRange, RowInRange, map_text};
 ghost use Rattle.model_meaning.specs.MapMeaning.{with_number};
@@ -99,6 +99,7 @@ fn stored(
 ) -> Result<MapEntry, NoMemory>
     ensures entry { IfOk result (λ given. given ≡ entry.S 1 1 (record { 0 = uid }) file offset size guid instances) }
     ensures range { IfOk result MapInRange }
+    ensures few { length instances ≤ 65535 → IsErr result → ⊥ }
 {
     if instances.length() > INSTANCES {
         return Err(NoMemory);

@@ -1,5 +1,5 @@
 // Appends to the map log.
-ghost use Rattle.std.specs.Prelude.{◌≡◌, ◌↔◌, ◌⊎◌, ◌<◌, ◌≤◌, ◌+◌, ◌++◌, ◌∷◌, [], ℕ, List, All, Some, IfOk, IfSome, IfNone, OnOk, OnErr, IsErr, IsErrOf, true, false, length, vec_len, vec_capacity};
+ghost use Rattle.std.specs.Prelude.{◌≡◌, ◌↔◌, ◌⊎◌, ◌<◌, ◌≤◌, ◌+◌, ◌++◌, ◌∷◌, [], ℕ, List, All, Some, MatchOption, IfOk, IfSome, IfNone, OnOk, OnErr, IsErr, IsErrOf, true, false, length, vec_len, vec_capacity};
 ghost use Rattle.disk_model.specs.Disk.{EachImage, Grows, OthersStay, SameButFor};
 ghost use Rattle.disk_model.specs.FaultCounts.{NoFault, ChangeFaultCounted};
 ghost use Rattle.gate_log.specs.Log.{Reads, Holds};
@@ -33,6 +33,9 @@ use std::alloc::Global;
 
 /// How many octets an entry has at the most that is laid out without memory.
 const SHORT: usize = 64;
+
+/// How many octets an entry has at the most that is laid out as it is added: one that names a mailbox.
+const LONGEST: usize = 265;
 
 /// The greatest map uid.
 const LAST_UID: u32 = 4_294_967_294;
@@ -248,7 +251,7 @@ pub(super) fn reserve_log(log: &mut GateLog, entry: &MapEntry) -> Result<(), NoM
     log.reserve(octets)
 }
 
-/// Adds an entry to the map log, which has room for it. Its octets are at hand, or it is short.
+/// Adds an entry to the map log, which has room for it. Its octets are at hand, or they are few.
 pub(super) fn append_entry<D: Disk>(
     log: &mut GateLog,
     disk: &mut D,
@@ -257,7 +260,7 @@ pub(super) fn append_entry<D: Disk>(
 ) -> Result<(), DiskFault>
     requires read { (entries : List (List ℕ)) × Reads log.old entries (D.history disk.old) }
     requires range { MapInRange entry.now }
-    requires text { IsLaidOut text entry.now }
+    requires text { MatchOption text (length (map_text entry.now) ≤ 265) (λ octets. octets ≡ map_text entry.now) }
     requires room { length (map_text entry.now) + 5 ≤ log.old.room }
     ensures any_moment { AddsText log.old (map_text entry.now) (D.history disk.old) (D.history disk.new) }
     ensures others_stay { EachImage (λ _ image. OthersStay log.old.name (D.history disk.old) image) (D.history disk.old) (D.history disk.new) }
@@ -273,7 +276,7 @@ pub(super) fn append_entry<D: Disk>(
     match text {
         Some(text) => log.append(disk, text.as_slice()),
         None => {
-            let mut room = [0; SHORT];
+            let mut room = [0; LONGEST];
             let text = &mut room[..map_entry_size(entry)];
             put_map_entry(text, entry);
             log.append(disk, text)

@@ -26,13 +26,14 @@ ghost use Rattle.store_core.specs.Value.{entry_room, indexes_of};
 ghost use Rattle.store_core.specs.declared.error.StepError.TheVariants as step_error;
 ghost use Rattle.store_core.specs.declared.store.OpenBox.{OpenBox};
 
+use super::append_map::append_entry;
 use super::{OpenBox, Store};
 use crate::append::place_of;
 use crate::error::{StepError, Stopped};
 use box_index::BoxIndex;
 use disk_model::{Disk, FileName};
 use gate_log::{DiskFault, GateLog, LogRoom, create_log};
-use log_records::{map_entry_size, put_map_entry};
+use log_records::map_entry_size;
 use map_index::MapIndex;
 use mdbox_base::{BoxNo, MapEntry, Name, NoMemory, StoreId, name_of};
 use model_logs::{LogHead, LogKind};
@@ -40,9 +41,6 @@ use std::alloc::Global;
 
 /// The greatest number of a mailbox.
 const LAST_BOX: u32 = 4_294_967_294;
-
-/// How many octets an entry that names a mailbox has at the most.
-const LONGEST: usize = 265;
 
 /// How many octets of a log's room an entry of 64 octets takes: its length and a gate have 5 more.
 const ENTRY_ROOM: u32 = 69;
@@ -192,7 +190,7 @@ impl<D: Disk> Store<D> {
             mailbox,
             name,
         )?;
-        match append_naming(&mut self.map_log, &mut self.disk, &entry) {
+        match append_entry(&mut self.map_log, &mut self.disk, &entry, None) {
             Ok(()) => {
                 move_made(&mut self.boxes, &mut self.made, mailbox);
                 self.map.take_in(entry);
@@ -296,33 +294,6 @@ fn naming(alloc: Global, mailbox: BoxNo, name: &Name) -> Result<MapEntry, NoMemo
         generation: 1,
         name,
     })
-}
-
-/// Adds an entry that gives a mailbox its name to the map log, which has room for it.
-pub(super) fn append_naming<D: Disk>(
-    log: &mut GateLog,
-    disk: &mut D,
-    entry: &MapEntry,
-) -> Result<(), DiskFault>
-    requires read { (entries : List (List ℕ)) × Reads log.old entries (D.history disk.old) }
-    requires range { MapInRange entry.now }
-    requires short { length (map_text entry.now) ≤ 265 }
-    requires room { length (map_text entry.now) + 5 ≤ log.old.room }
-    ensures any_moment { AddsText log.old (map_text entry.now) (D.history disk.old) (D.history disk.new) }
-    ensures others_stay { EachImage (λ _ image. OthersStay log.old.name (D.history disk.old) image) (D.history disk.old) (D.history disk.new) }
-    ensures grows { Grows (D.history disk.old) (D.history disk.new) }
-    ensures added { OnOk result ((entries : List (List ℕ)) → Reads log.old entries (D.history disk.old) → Reads log.new (entries ++ map_text entry.now ∷ []) (D.history disk.new)) }
-    ensures held { OnOk result ((entries : List (List ℕ)) → Holds log.old entries (D.history disk.old) → Holds log.new (entries ++ map_text entry.now ∷ []) (D.history disk.new)) }
-    ensures others { OnOk result (SameButFor log.old.name (D.history disk.old) (D.history disk.new)) }
-    ensures fault { ChangeFaultCounted (IsErr result) (D.faults disk.old) (D.faults disk.new) }
-    ensures unfailed { OnOk result (NoFault (D.faults disk.old) (D.faults disk.new)) }
-    ensures log { IsSameLog log.old log.new }
-    ensures further { OnOk result (log.old.end < log.new.end) }
-{
-    let mut room = [0; LONGEST];
-    let text = &mut room[..map_entry_size(entry)];
-    put_map_entry(text, entry);
-    log.append(disk, text)
 }
 
 /// Keeps the log of a mailbox, with its room, beside those that were made.

@@ -17,7 +17,7 @@ ghost use Rattle.store_core.specs.MadeLogs.{KeepsGone};
 ghost use Rattle.store_core.specs.declared.error.StepError.TheVariants as step_error;
 
 use super::Store;
-use super::boxes::append_naming;
+use super::append_map::append_entry;
 use crate::error::StepError;
 use disk_model::Disk;
 use gate_log::{DiskFault, GateLog};
@@ -63,7 +63,7 @@ impl<D: Disk> Store<D> {
         ensures unfailed { OnOk result (NoFault (D.faults self.old.disk) (D.faults self.new.disk)) }
     {
         let entry = take_renaming(self.alloc, &mut self.map_log, mailbox, name)?;
-        match append_naming(&mut self.map_log, &mut self.disk, &entry) {
+        match append_entry(&mut self.map_log, &mut self.disk, &entry, None) {
             Ok(()) => {
                 self.map.take_in(entry);
                 Ok(())

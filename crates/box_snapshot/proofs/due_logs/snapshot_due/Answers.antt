@@ -2,7 +2,7 @@ use Rattle.std.proofs.Common.{◌≡◌, false, All, List, sym, subst}
 use Rattle.std.proofs.lemmas.Result.{on_ok_weaker}
 use Rattle.store_core.specs.declared.store.OpenBox.{OpenBox}
 use Rattle.box_snapshot.specs.Due.{is_box_due}
-use Rattle.box_snapshot.proofs.DueLogsLemmas.{kept_on, runs_on}
+use Rattle.box_snapshot.proofs.DueLogsLemmas.{due_written, kept_on, runs_on}
 use Rattle.box_snapshot.proofs.RewritesLemmas.{only_then, rewrites_then}
 use Rattle.box_snapshot.proofs.due_logs.snapshot_due.Goals as goal
 
@@ -23,3 +23,8 @@ returns-clause-kept g c = on_ok_weaker c.snapshot_due_map.result (λ undue. kept
 pub returns-clause-only : goal.returns-clause-only
 returns-clause-only g c =
     on_ok_weaker c.snapshot_due_map.result (λ only. only_then g.D.Disk.history c.args.store.now c.snapshot_due_boxes.new.store c.snapshot_due_map.new.store c.in_ok-snapshot_due_boxes.ensures.only only) c.snapshot_due_map.ensures.only
+
+pub returns-clause-written : goal.returns-clause-written
+returns-clause-written g c =
+    let did = c.in_ok-snapshot_due_boxes.ensures in
+    on_ok_weaker c.snapshot_due_map.result (λ undue. due_written c.args.store.now c.snapshot_due_boxes.new.store c.snapshot_due_map.new.store did.once did.undue c.snapshot_due_map.ensures.same) c.snapshot_due_map.ensures.undue

@@ -1,6 +1,6 @@
 use Rattle.std.proofs.Common.{sym, ◌∙◌}
 use Rattle.std.proofs.lemmas.Bool.{true≢false}
-use Rattle.box_snapshot.proofs.DueLogsLemmas.{box_written, kept_written, none_due, shown_at, undue_next, undue_written}
+use Rattle.box_snapshot.proofs.DueLogsLemmas.{box_written, kept_written, none_due, once_then, shown_at, undue_next, undue_written}
 use Rattle.box_snapshot.proofs.RewritesLemmas.{rewrites_itself}
 use Rattle.box_snapshot.proofs.due_logs.snapshot_due_at.Goals as goal
 
@@ -28,3 +28,7 @@ pub returns-else-box_due-clause-undue : goal.returns-else-box_due-clause-undue
 returns-else-box_due-clause-undue g c = λ before.
     let there = shown_at _ c.args.place c.in-Some.mailbox c.args.store.now.map _ c.args.store.now.boxes c.facts.ensures.store.box_logs c.known_facts.ensures.boxes.rising c.map-map.ensures (sym c.in-Some.is ∙ c.box_at.ensures) in
     undue_next c.args.place c.in-Some.mailbox.number.0 c.args.store.now.boxes there (sym c.box_due.ensures ∙ c.if-box_due.false) before
+
+pub returns-in_ok-snapshot_box-clause-once : goal.returns-in_ok-snapshot_box-clause-once
+returns-in_ok-snapshot_box-clause-once g c =
+    λ first before. once_then c.in-Some.mailbox.number.0 _ first c.args.store.now c.snapshot_box.new.store (sym c.box_due.ensures ∙ c.if-box_due.true) c.in_ok-snapshot_box.ensures.written before

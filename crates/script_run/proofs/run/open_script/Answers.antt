@@ -2,6 +2,7 @@ use Rattle.std.proofs.Common.{◌∙◌, ap}
 use Rattle.std.specs.Prelude.{length}
 use Rattle.lanes.specs.Worlds.{WorldValue}
 use Rattle.script_run.proofs.DoneLemmas.{no_task}
+use Rattle.script_run.proofs.EndImageLemmas.{safe_in_the_end}
 use Rattle.script_run.proofs.StillLemmas.{unopened_still}
 use Rattle.script_run.specs.OpenScript.{IsStoreOpened}
 use Rattle.script_run.proofs.run.open_script.Goals as goal
@@ -12,7 +13,7 @@ returns-in_default-clause-refused g c = unopened_still (g.D.Disk.history c.args.
 pub returns-in-Err-clause-refused : goal.returns-in-Err-clause-refused
 returns-in-Err-clause-refused g c =
     let o = c.in-Err.ensures in
-    record { cause = o.refused; idle = o.idle; memory = o.memory; untouched = o.untouched; stays = o.mail_stays; closed_well = o.closed_well; moments = o.any_moment; settled_again = o.settled_again; carried = o.carried; fault = o.fault; unfailed = o.unfailed }
+    record { cause = o.refused; idle = o.idle; memory = o.memory; untouched = o.untouched; stays = o.mail_stays; closed_well = o.closed_well; moments = o.any_moment; safe = λ lists at. safe_in_the_end lists (g.D.Disk.history c.args.disk) (g.D.Disk.history c.in-Err.refused.disk) (g.met.D.Disk.reads_image c.in-Err.refused.disk) (o.any_moment lists at) at; settled_again = o.settled_again; carried = o.carried; fault = o.fault; unfailed = o.unfailed }
 
 pub of-requires-in-Ok-open_store-clause-unused : goal.of-requires-in-Ok-open_store-clause-unused
 of-requires-in-Ok-open_store-clause-unused g c =

@@ -1,6 +1,7 @@
 use Rattle.std.proofs.Common.{◌∙◌, ap, subst}
 use Rattle.script_run.proofs.DoneLemmas.{EndedParts, no_task}
 use Rattle.script_run.specs.OpenScript.{IsStoreOpened}
+use Rattle.script_run.proofs.EndImageLemmas.{safe_in_the_end}
 use Rattle.script_run.proofs.StillLemmas.{unopened_still}
 use Rattle.store_core.specs.Running.{IsStore}
 use Rattle.request_text.proofs.OrderLemmas.{told_in_order}
@@ -79,4 +80,4 @@ returns-in-Ok-open_store-clause-done g c =
 pub returns-in-Err-clause-refused : goal.returns-in-Err-clause-refused
 returns-in-Err-clause-refused g c =
     let o = c.in-Err.ensures in
-    record { cause = o.refused; idle = o.idle; memory = o.memory; untouched = o.untouched; stays = o.mail_stays; closed_well = o.closed_well; moments = o.any_moment; settled_again = o.settled_again; carried = o.carried; fault = o.fault; unfailed = o.unfailed }
+    record { cause = o.refused; idle = o.idle; memory = o.memory; untouched = o.untouched; stays = o.mail_stays; closed_well = o.closed_well; moments = o.any_moment; safe = λ lists at. safe_in_the_end lists (g.D.Disk.history c.args.disk) (g.D.Disk.history c.in-Err.refused.disk) (g.met.D.Disk.reads_image c.in-Err.refused.disk) (o.any_moment lists at) at; settled_again = o.settled_again; carried = o.carried; fault = o.fault; unfailed = o.unfailed }

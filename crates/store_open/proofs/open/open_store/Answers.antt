@@ -53,7 +53,7 @@ returns-in-Ok-clause-settled_again g c = λ none lists s.
 
 pub returns-in-Ok-clause-carried : goal.returns-in-Ok-clause-carried
 returns-in-Ok-clause-carried g c = λ none.
-    carried_anew g.D.Disk.history c.of.result c.write_due_logs.result (g.D.Disk.history c.args.disk) c.rewritten_stores_are_safe.ensures.on c.write_due_logs.ensures.written (ap (λ s. s.stopped) c.of.ensures.store)
+    carried_anew g.D.Disk.history c.of.result c.write_due_logs.result (g.D.Disk.history c.args.disk) c.rewritten_stores_are_safe.ensures.on c.rewritten_stores_open_again.ensures.carried c.write_due_logs.ensures.written (ap (λ s. s.stopped) c.of.ensures.store)
     (runs_on g.D.Disk.history c.of.result c.write_due_logs.result (g.D.Disk.faults c.args.disk) (g.D.Disk.faults c.of.result.disk) _ c.write_due_logs.ensures.written (rw c.of.ensures.store (c.in-Ok.ensures.unfailed (λ e. cc e))) c.write_due_logs.ensures.fault none) c.write_due_logs.ensures.idle
     (rw c.of.ensures.store (c.in-Ok.ensures.carried (λ fault. absurd (cc fault))))
 

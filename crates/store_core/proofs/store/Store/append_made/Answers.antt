@@ -15,8 +15,8 @@ returns-in_err-entry-clause-any_moment g c =
     subst (λ v. (lists : Lists) → IsSettledFor lists (g.D.Disk.history v.disk) → Leaves lists (lists ++ empty_mailbox c.args.mailbox.0 c.args.name.now ∷ []) (g.D.Disk.history v.disk) (g.D.Disk.history c.self.inside.disk)) c.self.view_is
     (λ lists settled. leaves_none _ lists (lists ++ empty_mailbox c.args.mailbox.0 c.args.name.now ∷ []) settled)
 
-pub append_naming-requires-clause-read : goal.append_naming-requires-clause-read
-append_naming-requires-clause-read g c =
+pub append_entry-requires-clause-read : goal.append_entry-requires-clause-read
+append_entry-requires-clause-read g c =
     let s = some_name _ _ c.args.self.now c.take_naming.new.log c.take_naming.new.map.meaning c.args.mailbox c.args.name.now c.self.invariant.1 c.self.invariant.3 c.self.view_is c.requires.running c.take_naming.ensures.name c.requires.fits c.take_naming.ensures.log c.take_naming.ensures.map c.requires.made in
     read_named _ _ s.0 c.args.mailbox c.args.name.now s.1
 
@@ -28,8 +28,8 @@ invariant_of-self-in-Ok g c =
     let applied : c.take_in.new.self.meaning ≡ map_applied (entry.B c.args.mailbox 1 c.args.name.now) c.take_naming.new.map.meaning = ap (λ x. x.meaning) c.take_in.ensures ∙ ap (λ (e : MapEntry). map_applied e c.take_naming.new.map.meaning) is in
     let more = c.move_made.ensures.moved.2 ∙ ap (λ (bs : List OpenBox). bs ++ b ∷ []) c.take_naming.ensures.boxes in (
       c.self.invariant.0 ∙ ap (λ (m : MapMeaning). m.store) (sym (applied ∙ ap (map_applied (entry.B c.args.mailbox 1 c.args.name.now)) c.take_naming.ensures.map)),
-      store_after_naming _ _ _ c.append_naming.new.disk c.take_naming.new.log c.append_naming.new.log c.take_naming.new.map.meaning c.take_in.new.self.meaning c.take_naming.new.boxes.items c.move_made.new.boxes.items c.move_made.new.made.items b c.args.mailbox c.args.name.now c.self.invariant.1 can c.in-Ok.ensures.log c.in-Ok.ensures.others
-          (subst (AddsRead c.take_naming.new.log c.append_naming.new.log (g.D.Disk.history c.self.inside.disk) (g.D.Disk.history c.append_naming.new.disk)) is c.in-Ok.ensures.added) applied c.take_naming.ensures.boxes c.move_made.ensures.moved.2,
+      store_after_naming _ _ _ c.append_entry.new.disk c.take_naming.new.log c.append_entry.new.log c.take_naming.new.map.meaning c.take_in.new.self.meaning c.take_naming.new.boxes.items c.move_made.new.boxes.items c.move_made.new.made.items b c.args.mailbox c.args.name.now c.self.invariant.1 can c.in-Ok.ensures.log c.in-Ok.ensures.others
+          (subst (AddsRead c.take_naming.new.log c.append_entry.new.log (g.D.Disk.history c.self.inside.disk) (g.D.Disk.history c.append_entry.new.disk)) is c.in-Ok.ensures.added) applied c.take_naming.ensures.boxes c.move_made.ensures.moved.2,
       room_after_naming _ _ c.take_naming.new.log b c.self.invariant.2 c.take_naming.ensures.no_less c.in-Ok.ensures.log.room can.is_made.room more,
       made_after_naming _ _ _ _ c.take_naming.new.log c.take_naming.new.map.meaning b c.args.mailbox c.args.name.now can c.self.invariant.3 c.in-Ok.ensures.others c.take_naming.ensures.map applied refl c.move_made.ensures.left,
       instances_naming c.take_naming.new.log.name c.self.invariant.1.generation _ _ _ _ c.self.invariant.4 (ap (λ (l : LogState). l.name) c.take_naming.ensures.log ∙ c.self.invariant.1.map_name) c.in-Ok.ensures.others refl refl
@@ -41,33 +41,33 @@ pub returns-in-Ok-clause-any_moment : goal.returns-in-Ok-clause-any_moment
 returns-in-Ok-clause-any_moment g c =
     let is = c.in_ok-entry.ensures.entry.0 in
     let s = some_name _ _ c.args.self.now c.take_naming.new.log c.take_naming.new.map.meaning c.args.mailbox c.args.name.now c.self.invariant.1 c.self.invariant.3 c.self.view_is c.requires.running c.take_naming.ensures.name c.requires.fits c.take_naming.ensures.log c.take_naming.ensures.map c.requires.made in
-    subst (λ v. (lists : Lists) → IsSettledFor lists (g.D.Disk.history v.disk) → Leaves lists (lists ++ empty_mailbox c.args.mailbox.0 c.args.name.now ∷ []) (g.D.Disk.history v.disk) (g.D.Disk.history c.append_naming.new.disk)) c.self.view_is
+    subst (λ v. (lists : Lists) → IsSettledFor lists (g.D.Disk.history v.disk) → Leaves lists (lists ++ empty_mailbox c.args.mailbox.0 c.args.name.now ∷ []) (g.D.Disk.history v.disk) (g.D.Disk.history c.append_entry.new.disk)) c.self.view_is
     (leaves_named _ _ _ s.0 c.args.mailbox c.args.name.now s.1 (g.met.D.Disk.reads_image c.self.inside.disk)
-    (subst (λ (e : MapEntry). AddsText c.take_naming.new.log (map_text e) (g.D.Disk.history c.self.inside.disk) (g.D.Disk.history c.append_naming.new.disk)) is c.append_naming.ensures.any_moment))
+    (subst (λ (e : MapEntry). AddsText c.take_naming.new.log (map_text e) (g.D.Disk.history c.self.inside.disk) (g.D.Disk.history c.append_entry.new.disk)) is c.append_entry.ensures.any_moment))
 
 pub returns-in-Err-clause-any_moment : goal.returns-in-Err-clause-any_moment
 returns-in-Err-clause-any_moment g c =
     let is = c.in_ok-entry.ensures.entry.0 in
     let s = some_name _ _ c.args.self.now c.take_naming.new.log c.take_naming.new.map.meaning c.args.mailbox c.args.name.now c.self.invariant.1 c.self.invariant.3 c.self.view_is c.requires.running c.take_naming.ensures.name c.requires.fits c.take_naming.ensures.log c.take_naming.ensures.map c.requires.made in
-    let left : (lists : Lists) → IsSettledFor lists (g.D.Disk.history c.args.self.now.disk) → Leaves lists (lists ++ empty_mailbox c.args.mailbox.0 c.args.name.now ∷ []) (g.D.Disk.history c.args.self.now.disk) (g.D.Disk.history c.append_naming.new.disk) =
-    subst (λ v. (lists : Lists) → IsSettledFor lists (g.D.Disk.history v.disk) → Leaves lists (lists ++ empty_mailbox c.args.mailbox.0 c.args.name.now ∷ []) (g.D.Disk.history v.disk) (g.D.Disk.history c.append_naming.new.disk)) c.self.view_is
+    let left : (lists : Lists) → IsSettledFor lists (g.D.Disk.history c.args.self.now.disk) → Leaves lists (lists ++ empty_mailbox c.args.mailbox.0 c.args.name.now ∷ []) (g.D.Disk.history c.args.self.now.disk) (g.D.Disk.history c.append_entry.new.disk) =
+    subst (λ v. (lists : Lists) → IsSettledFor lists (g.D.Disk.history v.disk) → Leaves lists (lists ++ empty_mailbox c.args.mailbox.0 c.args.name.now ∷ []) (g.D.Disk.history v.disk) (g.D.Disk.history c.append_entry.new.disk)) c.self.view_is
     (leaves_named _ _ _ s.0 c.args.mailbox c.args.name.now s.1 (g.met.D.Disk.reads_image c.self.inside.disk)
-    (subst (λ (e : MapEntry). AddsText c.take_naming.new.log (map_text e) (g.D.Disk.history c.self.inside.disk) (g.D.Disk.history c.append_naming.new.disk)) is c.append_naming.ensures.any_moment)) in
-    let same : c.match-entry.self.disk ≡ c.append_naming.new.disk = search rules in
+    (subst (λ (e : MapEntry). AddsText c.take_naming.new.log (map_text e) (g.D.Disk.history c.self.inside.disk) (g.D.Disk.history c.append_entry.new.disk)) is c.append_entry.ensures.any_moment)) in
+    let same : c.match-entry.self.disk ≡ c.append_entry.new.disk = search rules in
     subst (λ d. (lists : Lists) → IsSettledFor lists (g.D.Disk.history c.args.self.now.disk) → Leaves lists (lists ++ empty_mailbox c.args.mailbox.0 c.args.name.now ∷ []) (g.D.Disk.history c.args.self.now.disk) (g.D.Disk.history d)) (sym same) left
 
 pub returns-in-Ok-clause-settled : goal.returns-in-Ok-clause-settled
 returns-in-Ok-clause-settled g c =
     let is = c.in_ok-entry.ensures.entry.0 in
     let s = some_name _ _ c.args.self.now c.take_naming.new.log c.take_naming.new.map.meaning c.args.mailbox c.args.name.now c.self.invariant.1 c.self.invariant.3 c.self.view_is c.requires.running c.take_naming.ensures.name c.requires.fits c.take_naming.ensures.log c.take_naming.ensures.map c.requires.made in
-    subst (λ v. (lists : Lists) → IsSettledFor lists (g.D.Disk.history v.disk) → IsSettledFor (lists ++ empty_mailbox c.args.mailbox.0 c.args.name.now ∷ []) (g.D.Disk.history c.append_naming.new.disk)) c.self.view_is
-    (settled_named _ _ _ s.0 c.args.mailbox c.args.name.now c.append_naming.new.log s.1 (g.met.D.Disk.reads_image c.self.inside.disk) c.in-Ok.ensures.log c.in-Ok.ensures.others
-    (subst (AddsHeld c.take_naming.new.log c.append_naming.new.log (g.D.Disk.history c.self.inside.disk) (g.D.Disk.history c.append_naming.new.disk)) is c.in-Ok.ensures.held))
+    subst (λ v. (lists : Lists) → IsSettledFor lists (g.D.Disk.history v.disk) → IsSettledFor (lists ++ empty_mailbox c.args.mailbox.0 c.args.name.now ∷ []) (g.D.Disk.history c.append_entry.new.disk)) c.self.view_is
+    (settled_named _ _ _ s.0 c.args.mailbox c.args.name.now c.append_entry.new.log s.1 (g.met.D.Disk.reads_image c.self.inside.disk) c.in-Ok.ensures.log c.in-Ok.ensures.others
+    (subst (AddsHeld c.take_naming.new.log c.append_entry.new.log (g.D.Disk.history c.self.inside.disk) (g.D.Disk.history c.append_entry.new.disk)) is c.in-Ok.ensures.held))
 
 pub returns-in-Ok-clause-stored : goal.returns-in-Ok-clause-stored
 returns-in-Ok-clause-stored g c =
     let s = some_name _ _ c.args.self.now c.take_naming.new.log c.take_naming.new.map.meaning c.args.mailbox c.args.name.now c.self.invariant.1 c.self.invariant.3 c.self.view_is c.requires.running c.take_naming.ensures.name c.requires.fits c.take_naming.ensures.log c.take_naming.ensures.map c.requires.made in
-    subst (λ v. KeepsStored (g.D.Disk.history v.disk) (g.D.Disk.history c.append_naming.new.disk)) c.self.view_is (stored_named _ _ _ s.1.store c.in-Ok.ensures.others)
+    subst (λ v. KeepsStored (g.D.Disk.history v.disk) (g.D.Disk.history c.append_entry.new.disk)) c.self.view_is (stored_named _ _ _ s.1.store c.in-Ok.ensures.others)
 
 pub returns-in-Ok-clause-indexes : goal.returns-in-Ok-clause-indexes
 returns-in-Ok-clause-indexes g c =
@@ -99,7 +99,7 @@ returns-in-Ok-clause-leak g c =
 
 pub returns-in-Ok-clause-others : goal.returns-in-Ok-clause-others
 returns-in-Ok-clause-others g c =
-    subst (λ v. KeepsMail (g.D.Disk.history v.disk) (g.D.Disk.history c.append_naming.new.disk)) c.self.view_is
+    subst (λ v. KeepsMail (g.D.Disk.history v.disk) (g.D.Disk.history c.append_entry.new.disk)) c.self.view_is
     (mail_mapped c.take_naming.new.log.name c.self.invariant.1.generation _ _ (ap (λ (l : LogState). l.name) c.take_naming.ensures.log ∙ c.self.invariant.1.map_name) c.in-Ok.ensures.others)
 
 pub returns-in_err-entry-clause-mail_stays : goal.returns-in_err-entry-clause-mail_stays
@@ -109,13 +109,13 @@ returns-in_err-entry-clause-mail_stays g c = λ m.
 
 pub returns-in-Ok-clause-mail_stays : goal.returns-in-Ok-clause-mail_stays
 returns-in-Ok-clause-mail_stays g c = λ m.
-    subst (λ v. MailIsKept m (g.D.Disk.history v.disk) (g.D.Disk.history c.append_naming.new.disk)) c.self.view_is
-    (map_log_kept m c.take_naming.new.log.name c.self.invariant.1.generation _ _ (ap (λ (l : LogState). l.name) c.take_naming.ensures.log ∙ c.self.invariant.1.map_name) c.append_naming.ensures.others_stay)
+    subst (λ v. MailIsKept m (g.D.Disk.history v.disk) (g.D.Disk.history c.append_entry.new.disk)) c.self.view_is
+    (map_log_kept m c.take_naming.new.log.name c.self.invariant.1.generation _ _ (ap (λ (l : LogState). l.name) c.take_naming.ensures.log ∙ c.self.invariant.1.map_name) c.append_entry.ensures.others_stay)
 
 pub returns-in-Err-clause-mail_stays : goal.returns-in-Err-clause-mail_stays
 returns-in-Err-clause-mail_stays g c = λ m.
-    let left : MailIsKept m (g.D.Disk.history c.args.self.now.disk) (g.D.Disk.history c.append_naming.new.disk) =
-    subst (λ v. MailIsKept m (g.D.Disk.history v.disk) (g.D.Disk.history c.append_naming.new.disk)) c.self.view_is
-    (map_log_kept m c.take_naming.new.log.name c.self.invariant.1.generation _ _ (ap (λ (l : LogState). l.name) c.take_naming.ensures.log ∙ c.self.invariant.1.map_name) c.append_naming.ensures.others_stay) in
-    let same : c.match-entry.self.disk ≡ c.append_naming.new.disk = search rules in
+    let left : MailIsKept m (g.D.Disk.history c.args.self.now.disk) (g.D.Disk.history c.append_entry.new.disk) =
+    subst (λ v. MailIsKept m (g.D.Disk.history v.disk) (g.D.Disk.history c.append_entry.new.disk)) c.self.view_is
+    (map_log_kept m c.take_naming.new.log.name c.self.invariant.1.generation _ _ (ap (λ (l : LogState). l.name) c.take_naming.ensures.log ∙ c.self.invariant.1.map_name) c.append_entry.ensures.others_stay) in
+    let same : c.match-entry.self.disk ≡ c.append_entry.new.disk = search rules in
     subst (λ d. MailIsKept m (g.D.Disk.history c.args.self.now.disk) (g.D.Disk.history d)) (sym same) left

@@ -20,12 +20,12 @@ returns-in_err-entry-clause-any_moment g c =
     subst (λ v. (lists : Lists) → IsSettledFor lists (g.D.Disk.history v.disk) → Leaves lists (lists_changed (entry.V c.args.mailbox c.args.name.now) lists) (g.D.Disk.history v.disk) (g.D.Disk.history c.self.inside.disk)) c.self.view_is
     (λ lists settled. leaves_none _ lists (lists_changed (entry.V c.args.mailbox c.args.name.now) lists) settled)
 
-pub append_naming-requires-clause-read : goal.append_naming-requires-clause-read
-append_naming-requires-clause-read g c =
+pub append_entry-requires-clause-read : goal.append_entry-requires-clause-read
+append_entry-requires-clause-read g c =
     read_changed _ _ _ _ (can_rename _ _ c.args.self.now c.take_renaming.new.log c.args.mailbox c.args.name.now c.self.invariant.1 c.self.view_is c.requires.running c.take_renaming.ensures.log c.in_ok-entry.ensures.name c.requires.fits)
 
-pub append_naming-requires-clause-range : goal.append_naming-requires-clause-range
-append_naming-requires-clause-range g c =
+pub append_entry-requires-clause-range : goal.append_entry-requires-clause-range
+append_entry-requires-clause-range g c =
     let can = can_rename _ _ c.args.self.now c.take_renaming.new.log c.args.mailbox c.args.name.now c.self.invariant.1 c.self.view_is c.requires.running c.take_renaming.ensures.log c.in_ok-entry.ensures.name c.requires.fits in
     subst MapInRange (sym c.in_ok-entry.ensures.entry) can.in_range
 
@@ -36,7 +36,7 @@ invariant_of-self-in-Ok g c =
     let applied : c.take_in.new.self.meaning ≡ map_applied (entry.V c.args.mailbox c.args.name.now) c.self.inside.map.meaning = ap (λ x. x.meaning) c.take_in.ensures ∙ ap (λ (e : MapEntry). map_applied e c.self.inside.map.meaning) is in
     let named : c.take_renaming.new.log.name ≡ file.Map c.self.invariant.1.generation = ap (λ (l : LogState). l.name) c.take_renaming.ensures.log ∙ c.self.invariant.1.map_name in (
       c.self.invariant.0 ∙ ap (λ (m : MapMeaning). m.store) (sym applied),
-      store_after_change _ _ _ c.append_naming.new.disk c.take_renaming.new.log c.append_naming.new.log (entry.V c.args.mailbox c.args.name.now) c.in_ok-entry.entry c.take_in.new.self.meaning _ _ c.self.invariant.1 can c.in-Ok.ensures.log c.in-Ok.ensures.others c.in-Ok.ensures.added is applied refl,
+      store_after_change _ _ _ c.append_entry.new.disk c.take_renaming.new.log c.append_entry.new.log (entry.V c.args.mailbox c.args.name.now) c.in_ok-entry.entry c.take_in.new.self.meaning _ _ c.self.invariant.1 can c.in-Ok.ensures.log c.in-Ok.ensures.others c.in-Ok.ensures.added is applied refl,
       room_after _ _ c.take_renaming.new.log c.self.invariant.2 c.take_renaming.ensures.no_less c.in-Ok.ensures.log.room refl,
       made_after_change c.self.invariant.1.generation _ _ _ _ c.take_renaming.new.log.name c.self.invariant.3 can.running named c.in-Ok.ensures.others refl (ap (λ (m : MapMeaning). m.store) applied) refl
           (λ n unnamed. subst (IsUnnamed n) (sym applied) (unnamed_renamed c.args.mailbox c.args.name.now c.self.inside.map.meaning n unnamed)),
@@ -46,31 +46,31 @@ invariant_of-self-in-Ok g c =
 pub returns-in-Ok-clause-any_moment : goal.returns-in-Ok-clause-any_moment
 returns-in-Ok-clause-any_moment g c =
     let can = can_rename _ _ c.args.self.now c.take_renaming.new.log c.args.mailbox c.args.name.now c.self.invariant.1 c.self.view_is c.requires.running c.take_renaming.ensures.log c.in_ok-entry.ensures.name c.requires.fits in
-    subst (λ v. (lists : Lists) → IsSettledFor lists (g.D.Disk.history v.disk) → Leaves lists (lists_changed (entry.V c.args.mailbox c.args.name.now) lists) (g.D.Disk.history v.disk) (g.D.Disk.history c.append_naming.new.disk)) c.self.view_is
+    subst (λ v. (lists : Lists) → IsSettledFor lists (g.D.Disk.history v.disk) → Leaves lists (lists_changed (entry.V c.args.mailbox c.args.name.now) lists) (g.D.Disk.history v.disk) (g.D.Disk.history c.append_entry.new.disk)) c.self.view_is
     (leaves_changed _ _ _ (entry.V c.args.mailbox c.args.name.now) _ can (g.met.D.Disk.reads_image c.self.inside.disk)
-    (subst (λ (e : MapEntry). AddsText c.take_renaming.new.log (map_text e) (g.D.Disk.history c.self.inside.disk) (g.D.Disk.history c.append_naming.new.disk)) c.in_ok-entry.ensures.entry c.append_naming.ensures.any_moment))
+    (subst (λ (e : MapEntry). AddsText c.take_renaming.new.log (map_text e) (g.D.Disk.history c.self.inside.disk) (g.D.Disk.history c.append_entry.new.disk)) c.in_ok-entry.ensures.entry c.append_entry.ensures.any_moment))
 
 pub returns-in-Err-clause-any_moment : goal.returns-in-Err-clause-any_moment
 returns-in-Err-clause-any_moment g c =
     let can = can_rename _ _ c.args.self.now c.take_renaming.new.log c.args.mailbox c.args.name.now c.self.invariant.1 c.self.view_is c.requires.running c.take_renaming.ensures.log c.in_ok-entry.ensures.name c.requires.fits in
-    let left : (lists : Lists) → IsSettledFor lists (g.D.Disk.history c.args.self.now.disk) → Leaves lists (lists_changed (entry.V c.args.mailbox c.args.name.now) lists) (g.D.Disk.history c.args.self.now.disk) (g.D.Disk.history c.append_naming.new.disk) =
-    subst (λ v. (lists : Lists) → IsSettledFor lists (g.D.Disk.history v.disk) → Leaves lists (lists_changed (entry.V c.args.mailbox c.args.name.now) lists) (g.D.Disk.history v.disk) (g.D.Disk.history c.append_naming.new.disk)) c.self.view_is
+    let left : (lists : Lists) → IsSettledFor lists (g.D.Disk.history c.args.self.now.disk) → Leaves lists (lists_changed (entry.V c.args.mailbox c.args.name.now) lists) (g.D.Disk.history c.args.self.now.disk) (g.D.Disk.history c.append_entry.new.disk) =
+    subst (λ v. (lists : Lists) → IsSettledFor lists (g.D.Disk.history v.disk) → Leaves lists (lists_changed (entry.V c.args.mailbox c.args.name.now) lists) (g.D.Disk.history v.disk) (g.D.Disk.history c.append_entry.new.disk)) c.self.view_is
     (leaves_changed _ _ _ (entry.V c.args.mailbox c.args.name.now) _ can (g.met.D.Disk.reads_image c.self.inside.disk)
-    (subst (λ (e : MapEntry). AddsText c.take_renaming.new.log (map_text e) (g.D.Disk.history c.self.inside.disk) (g.D.Disk.history c.append_naming.new.disk)) c.in_ok-entry.ensures.entry c.append_naming.ensures.any_moment)) in
-    let same : c.match-entry.self.disk ≡ c.append_naming.new.disk = search rules in
+    (subst (λ (e : MapEntry). AddsText c.take_renaming.new.log (map_text e) (g.D.Disk.history c.self.inside.disk) (g.D.Disk.history c.append_entry.new.disk)) c.in_ok-entry.ensures.entry c.append_entry.ensures.any_moment)) in
+    let same : c.match-entry.self.disk ≡ c.append_entry.new.disk = search rules in
     subst (λ d. (lists : Lists) → IsSettledFor lists (g.D.Disk.history c.args.self.now.disk) → Leaves lists (lists_changed (entry.V c.args.mailbox c.args.name.now) lists) (g.D.Disk.history c.args.self.now.disk) (g.D.Disk.history d)) (sym same) left
 
 pub returns-in-Ok-clause-settled : goal.returns-in-Ok-clause-settled
 returns-in-Ok-clause-settled g c =
     let can = can_rename _ _ c.args.self.now c.take_renaming.new.log c.args.mailbox c.args.name.now c.self.invariant.1 c.self.view_is c.requires.running c.take_renaming.ensures.log c.in_ok-entry.ensures.name c.requires.fits in
-    subst (λ v. (lists : Lists) → IsSettledFor lists (g.D.Disk.history v.disk) → IsSettledFor (lists_changed (entry.V c.args.mailbox c.args.name.now) lists) (g.D.Disk.history c.append_naming.new.disk)) c.self.view_is
-    (settled_changed _ _ _ (entry.V c.args.mailbox c.args.name.now) _ c.append_naming.new.log can (g.met.D.Disk.reads_image c.self.inside.disk) c.in-Ok.ensures.log c.in-Ok.ensures.others
-    (subst (AddsHeld c.take_renaming.new.log c.append_naming.new.log (g.D.Disk.history c.self.inside.disk) (g.D.Disk.history c.append_naming.new.disk)) c.in_ok-entry.ensures.entry c.in-Ok.ensures.held))
+    subst (λ v. (lists : Lists) → IsSettledFor lists (g.D.Disk.history v.disk) → IsSettledFor (lists_changed (entry.V c.args.mailbox c.args.name.now) lists) (g.D.Disk.history c.append_entry.new.disk)) c.self.view_is
+    (settled_changed _ _ _ (entry.V c.args.mailbox c.args.name.now) _ c.append_entry.new.log can (g.met.D.Disk.reads_image c.self.inside.disk) c.in-Ok.ensures.log c.in-Ok.ensures.others
+    (subst (AddsHeld c.take_renaming.new.log c.append_entry.new.log (g.D.Disk.history c.self.inside.disk) (g.D.Disk.history c.append_entry.new.disk)) c.in_ok-entry.ensures.entry c.in-Ok.ensures.held))
 
 pub returns-in-Ok-clause-stored : goal.returns-in-Ok-clause-stored
 returns-in-Ok-clause-stored g c =
     let can = can_rename _ _ c.args.self.now c.take_renaming.new.log c.args.mailbox c.args.name.now c.self.invariant.1 c.self.view_is c.requires.running c.take_renaming.ensures.log c.in_ok-entry.ensures.name c.requires.fits in
-    subst (λ v. KeepsStored (g.D.Disk.history v.disk) (g.D.Disk.history c.append_naming.new.disk)) c.self.view_is (stored_named _ _ _ can.store c.in-Ok.ensures.others)
+    subst (λ v. KeepsStored (g.D.Disk.history v.disk) (g.D.Disk.history c.append_entry.new.disk)) c.self.view_is (stored_named _ _ _ can.store c.in-Ok.ensures.others)
 
 pub returns-in-Ok-clause-taken : goal.returns-in-Ok-clause-taken
 returns-in-Ok-clause-taken g c =
@@ -91,7 +91,7 @@ returns-in-Ok-clause-leak g c = λ uid. leak_renamed uid c.take_in.new.self.mean
 
 pub returns-in-Ok-clause-others : goal.returns-in-Ok-clause-others
 returns-in-Ok-clause-others g c =
-    subst (λ v. KeepsMail (g.D.Disk.history v.disk) (g.D.Disk.history c.append_naming.new.disk)) c.self.view_is
+    subst (λ v. KeepsMail (g.D.Disk.history v.disk) (g.D.Disk.history c.append_entry.new.disk)) c.self.view_is
     (mail_mapped c.take_renaming.new.log.name c.self.invariant.1.generation _ _ (ap (λ (l : LogState). l.name) c.take_renaming.ensures.log ∙ c.self.invariant.1.map_name) c.in-Ok.ensures.others)
 
 pub returns-in-Ok-clause-uids : goal.returns-in-Ok-clause-uids
@@ -120,13 +120,13 @@ returns-in_err-entry-clause-mail_stays g c = λ m.
 
 pub returns-in-Ok-clause-mail_stays : goal.returns-in-Ok-clause-mail_stays
 returns-in-Ok-clause-mail_stays g c = λ m.
-    subst (λ v. MailIsKept m (g.D.Disk.history v.disk) (g.D.Disk.history c.append_naming.new.disk)) c.self.view_is
-    (map_log_kept m c.take_renaming.new.log.name c.self.invariant.1.generation _ _ (ap (λ (l : LogState). l.name) c.take_renaming.ensures.log ∙ c.self.invariant.1.map_name) c.append_naming.ensures.others_stay)
+    subst (λ v. MailIsKept m (g.D.Disk.history v.disk) (g.D.Disk.history c.append_entry.new.disk)) c.self.view_is
+    (map_log_kept m c.take_renaming.new.log.name c.self.invariant.1.generation _ _ (ap (λ (l : LogState). l.name) c.take_renaming.ensures.log ∙ c.self.invariant.1.map_name) c.append_entry.ensures.others_stay)
 
 pub returns-in-Err-clause-mail_stays : goal.returns-in-Err-clause-mail_stays
 returns-in-Err-clause-mail_stays g c = λ m.
-    let left : MailIsKept m (g.D.Disk.history c.args.self.now.disk) (g.D.Disk.history c.append_naming.new.disk) =
-    subst (λ v. MailIsKept m (g.D.Disk.history v.disk) (g.D.Disk.history c.append_naming.new.disk)) c.self.view_is
-    (map_log_kept m c.take_renaming.new.log.name c.self.invariant.1.generation _ _ (ap (λ (l : LogState). l.name) c.take_renaming.ensures.log ∙ c.self.invariant.1.map_name) c.append_naming.ensures.others_stay) in
-    let same : c.match-entry.self.disk ≡ c.append_naming.new.disk = search rules in
+    let left : MailIsKept m (g.D.Disk.history c.args.self.now.disk) (g.D.Disk.history c.append_entry.new.disk) =
+    subst (λ v. MailIsKept m (g.D.Disk.history v.disk) (g.D.Disk.history c.append_entry.new.disk)) c.self.view_is
+    (map_log_kept m c.take_renaming.new.log.name c.self.invariant.1.generation _ _ (ap (λ (l : LogState). l.name) c.take_renaming.ensures.log ∙ c.self.invariant.1.map_name) c.append_entry.ensures.others_stay) in
+    let same : c.match-entry.self.disk ≡ c.append_entry.new.disk = search rules in
     subst (λ d. MailIsKept m (g.D.Disk.history c.args.self.now.disk) (g.D.Disk.history d)) (sym same) left
