@@ -5,7 +5,7 @@ pub trait Pause {
     /// How many turns a lane has one after another, at the most: 1 to 8. Nothing is called between them.
     fn turns(&self) -> u32;
 
-    /// Before them, with how often the lane has had turns, this time too.
+    /// Before them, with the number of the first of them in that lane, counted from 1.
     fn before(&self, lane: u32, event: u64);
 
     /// After them, with the lane's number of replies.

@@ -16,9 +16,9 @@ use turn_lock::{TurnLock, TurnSeat};
 /// After how many turns a lane ends with the reply to its request.
 const ENOUGH: u32 = 4;
 
-/// Turns of a lane, one after another, so many at the most: what the last of them came to, and how many replies the lane has then. Memory
-/// that others wrote is slow to reach, so a lane has more than one, and ends with a reply if it can: a request that is done at once leaves
-/// less behind.
+/// Turns of a lane, one after another, so many at the most: what the last of them came to, how many replies the lane has then, and how many
+/// turns it had. Memory that others wrote is slow to reach, so a lane has more than one, and ends with a reply if it can: a request that is
+/// done at once leaves less behind.
 fn take_turns<R: Wait, D: Disk>(
     rt: &R,
     lock: &TurnLock<Handed<D>>,
@@ -26,7 +26,7 @@ fn take_turns<R: Wait, D: Disk>(
     first: &Snapshot<World<D>>,
     lane: u32,
     most: u32,
-) -> (Turned, u64)
+) -> (Turned, u64, u32)
     requires ready { IsReadySeat lock.now first.now.value seat.old }
     requires lane { (1 ≤ lane) × (lane ≤ length first.now.value.rows) }
     ensures ready { IsReadySeat lock.now first.now.value seat.new }
@@ -46,7 +46,7 @@ fn take_turns<R: Wait, D: Disk>(
             Turned::Worked if !ends && seat.more() > 0 => handed = lock.go_on(seat, handed),
             _ => {
                 lock.give(seat, handed);
-                return (turned, replies);
+                return (turned, replies, had);
             }
         }
     }
@@ -65,12 +65,12 @@ fn work_away<R: Wait, D: Disk, P: Pause>(
     requires lane { (1 ≤ lane) × (lane ≤ length first.now.value.rows) }
     ensures { HasWorkedAway lock.now first.now.value lane seat.old seat.new }
 {
-    let mut event = 0u64;
+    let mut event = 1u64;
     for _ in rt.forever() {
-        event = event.wrapping_add(1);
         pause.before(lane, event);
-        let (turned, replies) = take_turns(rt, lock, seat, first, lane, pause.turns());
+        let (turned, replies, had) = take_turns(rt, lock, seat, first, lane, pause.turns());
         pause.after(lane, replies);
+        event = event.wrapping_add(u64::from(had));
         match turned {
             Turned::Worked => {}
             Turned::Idle | Turned::NoMemory => return,
