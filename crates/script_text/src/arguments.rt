@@ -1,4 +1,5 @@
-// The words that follow the verb of a request: names, UIDs, flags, keywords, times and sizes. All of them are looked at before memory is taken.
+// The words that follow the verb of a request: names, UIDs, flags, keywords, times and sizes. Where one is bad they are bad, and
+// never out of memory.
 ghost use Rattle.std.specs.Prelude.{◌≡◌, ◌≢◌, ◌≤◌, ◌<◌, ◌^◌, ◌++◌, ◌∷◌, [], ℕ, List, length, IfSome, IfNone, IfOk, IsErrOf};
 ghost use Rattle.mdbox_base.specs.Keywords.{AreWords};
 ghost use Rattle.mdbox_base.specs.Numbers.{decimal_text};

@@ -12,8 +12,8 @@ use std::alloc::Global;
 /// How many requests a script has at most.
 pub const MOST_REQUESTS: usize = 100_000;
 
-/// The script for so many lanes that a text is. Of each message one copy is made. A request is looked at whole before memory is taken
-/// for it: out of memory is answered of none that is bad.
+/// The script for so many lanes that a text is. Of each message one copy is made. A request that is bad is
+/// told as such, and never as out of memory.
 pub fn read_script(alloc: Global, text: &[u8], lanes: u32) -> Result<Script, ScriptError>
     ensures gives { (result ≡ Err ScriptError.NoMemory) ⊎ ScriptGives lanes text.now result }
     ensures exactly { (answer : Result Script ScriptError) → ScriptGives lanes text.now answer → (result ≡ Err ScriptError.NoMemory) ⊎ (result ≡ answer) }

@@ -11,7 +11,7 @@ pub returns-in_default-clause-bad : goal.returns-in_default-clause-bad
 returns-in_default-clause-bad c = λ is name time size n tl sl e. c.in_default.ensures.none name time size (short_name name n) tl sl e
 
 pub returns-in_err-name-clause-bad : goal.returns-in_err-name-clause-bad
-returns-in_err-name-clause-bad c = 
+returns-in_err-name-clause-bad c =
     let none : IsErrOf c.from_residual.result flaw.Bad → IsName c.in-Some.octets.now → ⊥ = first_of (search rules, grind (arith, common_steps)) in λ is name time size n tl sl e.
     let found = c.in-Some.ensures.some in
     let r = name_then c.in-Some.octets.now name (decimal_text c.in-Some.time ++ 32 ∷ decimal_text c.in-Some.size) (decimal_text time ++ 32 ∷ decimal_text size) found.0 (short_name name n) (sym found.3 ∙ e) in

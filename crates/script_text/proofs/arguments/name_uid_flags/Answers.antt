@@ -18,14 +18,14 @@ returns-in_default-flags_from-clause-bad c = λ is name uid flags n u f e.
     c.in_default-flags_from.ensures.none flags f r.1
 
 pub returns-in_err-name-clause-bad : goal.returns-in_err-name-clause-bad
-returns-in_err-name-clause-bad c = 
+returns-in_err-name-clause-bad c =
     let none : IsErrOf c.from_residual.result flaw.Bad → IsName c.in-Some.octets.now → ⊥ = first_of (search rules, grind (arith, common_steps)) in λ is name uid flags n u f e.
     let found = c.in-Some.ensures.some in
     let r = name_uid_then c.in-Some.octets.now name c.in-Some.uid.0 uid c.in-Some.word.now (decimal_text flags) found.0 (short_name name n) found.1 u (sym found.2 ∙ e) in
     none is (rw r.0 n)
 
 pub returns-in_err-name-clause-memory : goal.returns-in_err-name-clause-memory
-returns-in_err-name-clause-memory c = 
+returns-in_err-name-clause-memory c =
     let named : IsErrOf c.from_residual.result flaw.NoMemory → IsName c.in-Some.octets.now = first_of (search rules, grind (arith, common_steps)) in λ is.
     let found = c.in-Some.ensures.some in
     let bits = c.in-Some-flags_from.ensures.some in

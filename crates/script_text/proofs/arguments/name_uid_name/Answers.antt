@@ -18,7 +18,7 @@ returns-in_default-octets_alone-clause-bad c = λ is name uid target n u t e.
     c.in_default-octets_alone.ensures.none target (short_name target t) r.1
 
 pub returns-in_err-name-clause-bad : goal.returns-in_err-name-clause-bad
-returns-in_err-name-clause-bad c = 
+returns-in_err-name-clause-bad c =
     let none : IsErrOf c.from_residual.result flaw.Bad → IsName c.in-Some.first.now → IsName c.in-Some-octets_alone.second.now → ⊥ = first_of (search rules, grind (arith, common_steps)) in λ is name uid target n u t e.
     let found = c.in-Some.ensures.some in
     let other = c.in-Some-octets_alone.ensures.some in
@@ -27,7 +27,7 @@ returns-in_err-name-clause-bad c =
     none is (rw r.0 n) (rw same t)
 
 pub returns-in_err-name-clause-memory : goal.returns-in_err-name-clause-memory
-returns-in_err-name-clause-memory c = 
+returns-in_err-name-clause-memory c =
     let named : IsErrOf c.from_residual.result flaw.NoMemory → IsName c.in-Some.first.now × IsName c.in-Some-octets_alone.second.now = first_of (search rules, grind (arith, common_steps)) in λ is.
     let found = c.in-Some.ensures.some in
     let other = c.in-Some-octets_alone.ensures.some in

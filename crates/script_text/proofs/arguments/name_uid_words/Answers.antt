@@ -21,22 +21,22 @@ returns-then-not-are_counted-clause-bad c = λ is name uid keywords n u k e.
     grind (arith, common_steps, yes, no)
 
 pub returns-in_err-name-clause-bad : goal.returns-in_err-name-clause-bad
-returns-in_err-name-clause-bad c = 
-    let none : IsErrOf c.from_residual-in_err-name.result flaw.Bad → IsName c.in-Some.octets.now → ⊥ = first_of (search rules, grind (arith, common_steps)) in λ is name uid keywords n u k e.
+returns-in_err-name-clause-bad c =
+    let none : IsErrOf c.from_residual.result flaw.Bad → IsName c.in-Some.octets.now → ⊥ = first_of (search rules, grind (arith, common_steps)) in λ is name uid keywords n u k e.
     let found = c.in-Some.ensures.some in
     let r = name_uid_then c.in-Some.octets.now name c.in-Some.uid.0 uid c.in-Some.rest.now (spaced (decimal_text (length keywords) ∷ keywords)) found.0 (short_name name n) found.1 u (sym found.2 ∙ e) in
     none is (rw r.0 n)
 
 pub returns-in_err-name-clause-memory : goal.returns-in_err-name-clause-memory
-returns-in_err-name-clause-memory c = 
-    let named : IsErrOf c.from_residual-in_err-name.result flaw.NoMemory → IsName c.in-Some.octets.now = first_of (search rules, grind (arith, common_steps)) in
+returns-in_err-name-clause-memory c =
+    let named : IsErrOf c.from_residual.result flaw.NoMemory → IsName c.in-Some.octets.now = first_of (search rules, grind (arith, common_steps)) in
     let yes : IsTrue c.are_counted.result = first_of (search rules, grind (arith, common_steps)) in λ is.
     let found = c.in-Some.ensures.some in
     let counted : AreCounted c.in-Some.rest.now = c.are_counted.ensures.0 yes in
     (c.in-Some.octets.now, c.in-Some.uid.0, counted.0, named is, found.1, counted.1, found.2 ∙ ap (λ (t : List ℕ). name_word c.in-Some.octets.now ++ 32 ∷ (decimal_text c.in-Some.uid.0 ++ 32 ∷ t)) counted.2)
 
 pub returns-in_err-keywords-clause-memory : goal.returns-in_err-keywords-clause-memory
-returns-in_err-keywords-clause-memory c = 
+returns-in_err-keywords-clause-memory c =
     let yes : IsTrue c.are_counted.result = first_of (search rules, grind (arith, common_steps)) in λ is.
     let found = c.in-Some.ensures.some in
     let counted : AreCounted c.in-Some.rest.now = c.are_counted.ensures.0 yes in

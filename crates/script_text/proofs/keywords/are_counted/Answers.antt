@@ -23,7 +23,7 @@ returns-in_default-keywords_in c = (
 )
 
 pub returns : goal.returns
-returns c = 
+returns c =
     let cut = c.first_word.ensures in
     let some = c.in-Some-keywords_in.ensures.some in
     let clear = keywords_have_none 32 some.0 (omega arith) some.1 in (

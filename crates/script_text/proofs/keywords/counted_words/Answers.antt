@@ -7,7 +7,7 @@ use Rattle.script_text.proofs.SpacedLemmas.{counted_parts, texts_same}
 use Rattle.script_text.proofs.keywords.counted_words.Goals as goal
 
 pub of-requires : goal.of-requires
-of-requires c = 
+of-requires c =
     let are = c.requires in
     let cut = c.first_word.ensures in
     let r = counted_parts c.args.words.now c.first_word.result.0.now c.first_word.result.1.now are.0 cut.parts cut.word cut.rest are.1 are.2 in
@@ -16,7 +16,7 @@ of-requires c =
     record { words = subst AreWords (sym same) are.1 }
 
 pub returns : goal.returns
-returns c = 
+returns c =
     let are = c.requires in
     let cut = c.first_word.ensures in
     let r = counted_parts c.args.words.now c.first_word.result.0.now c.first_word.result.1.now are.0 cut.parts cut.word cut.rest are.1 are.2 in

@@ -15,14 +15,14 @@ returns-in_default-message_at-clause-bad c = λ is.
     short_delivery c.args.arguments.now c.args.rest.now c.in-Some.origin.now c.in-Some.time c.in-Some.size found.0 found.1 found.2 found.3 c.in_default-message_at.ensures.none
 
 pub returns-in_err-name-clause-bad : goal.returns-in_err-name-clause-bad
-returns-in_err-name-clause-bad c = 
-    let none : IsErrOf c.from_residual-in_err-name.result flaw.Bad → IsName c.in-Some.origin.now → ⊥ = first_of (search rules, grind (arith, common_steps)) in λ is.
+returns-in_err-name-clause-bad c =
+    let none : IsErrOf c.from_residual.result flaw.Bad → IsName c.in-Some.origin.now → ⊥ = first_of (search rules, grind (arith, common_steps)) in λ is.
     let found = c.in-Some.ensures.some in
     unnamed_delivery c.args.arguments.now c.args.rest.now c.in-Some.origin.now c.in-Some.time c.in-Some.size found.0 found.1 found.2 found.3 (none is)
 
 pub returns-in_err-name-clause-memory : goal.returns-in_err-name-clause-memory
-returns-in_err-name-clause-memory c = 
-    let named : IsErrOf c.from_residual-in_err-name.result flaw.NoMemory → IsName c.in-Some.origin.now = first_of (search rules, grind (arith, common_steps)) in λ is.
+returns-in_err-name-clause-memory c =
+    let named : IsErrOf c.from_residual.result flaw.NoMemory → IsName c.in-Some.origin.now = first_of (search rules, grind (arith, common_steps)) in λ is.
     let found = c.in-Some.ensures.some in
     let message = c.in-Some-message_at.ensures.some in
     whole_delivery c.args.arguments.now c.args.rest.now c.in-Some.origin.now c.in-Some-message_at.octets.now c.in-Some-message_at.rest.now c.in-Some.time c.in-Some.size (named is) found.1 found.3 message.0 message.1 message.2

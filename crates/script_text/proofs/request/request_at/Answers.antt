@@ -24,7 +24,7 @@ returns-in_err-asked-clause-bad c =
     none is asked.1 rest (record { fits = fits.fits; words_are = words.1; message_is = parts.1 })
 
 pub returns-in_err-asked-clause-memory : goal.returns-in_err-asked-clause-memory
-returns-in_err-asked-clause-memory c = 
+returns-in_err-asked-clause-memory c =
     let some : IsErrOf c.from_residual.result flaw.NoMemory → AsksSomething c.in-Some-lane_and_words.words.now c.in-Some.rest.now = first_of (search rules, grind (arith, common_steps)) in λ is.
     let cut = c.in-Some.ensures.some in
     let lane = c.in-Some-lane_and_words.ensures.some in
