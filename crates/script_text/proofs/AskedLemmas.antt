@@ -1,19 +1,18 @@
 -- What the words of a line and what follows it ask for: one request, or nothing.
-use Rattle.std.specs.Prelude.{◌≡◌, ◌≢◌, ◌<◌, ◌≤◌, ◌+◌, ◌*◌, ◌^◌, ℕ, List, [], ◌∷◌, ◌++◌, length, codes, drop, false, nat_eq, IsTrue, refl}
+use Rattle.std.specs.Prelude.{◌≡◌, ◌≢◌, ◌<◌, ◌≤◌, ◌^◌, ℕ, List, [], ◌∷◌, ◌++◌, length, codes, drop, IsTrue, refl}
 use Rattle.std.specs.List.{list_all}
-use Rattle.std.proofs.Common.{sym, ◌∙◌, ap, arith, subst, length-append}
+use Rattle.std.proofs.Common.{sym, ◌∙◌, ap, arith, subst}
 use Rattle.std.proofs.lemmas.Fmt.{decimal_injective}
 use Rattle.mdbox_base.specs.Numbers.{decimal_text}
-use Rattle.mdbox_base.specs.Words.{IsNumber, IsName, is_other_than}
-use Rattle.mdbox_base.specs.declared.ids.Uid.{Uid}
+use Rattle.mdbox_base.specs.Words.{IsName, is_other_than}
 use Rattle.mdbox_base.specs.declared.requests.Request.{Request}
 use Rattle.mdbox_base.specs.declared.requests.Request.TheVariants as request
-use Rattle.script_text.specs.Script.{name_word, request_words, spaced, message_text, FitsScript}
+use Rattle.script_text.specs.Script.{name_word, request_words, spaced}
 use Rattle.script_text.specs.Reading.{IsRequestOf, AsksNothing, AsksSomething, IsOneWord, verb_text}
 use Rattle.script_text.specs.declared.verb.Verb.{Verb}
 use Rattle.script_text.specs.declared.verb.Verb.TheVariants as verb
 use Rattle.script_text.proofs.CutLemmas.{until_same, no_cut}
-use Rattle.script_text.proofs.RequestLemmas.{differ, name_then, number_then, short_name, small_uid}
+use Rattle.script_text.proofs.RequestLemmas.{differ, name_then, number_then, short_name}
 
 -- ---- one word
 

@@ -1,7 +1,6 @@
-use Rattle.std.proofs.Common.{arith, rules, sym, ◌∙◌, ◌≡◌, ◌<◌, List, ℕ, ◌∷◌}
+use Rattle.std.proofs.Common.{arith, rules, sym, ◌∙◌}
 use Rattle.std.specs.Prelude.{IsErrOf}
 use Rattle.std.proofs.lemmas.Grind.{common_steps}
-use Rattle.mdbox_base.specs.Numbers.{decimal_text}
 use Rattle.script_text.specs.Script.{spaced, request_words}
 use Rattle.script_text.specs.Reading.{AsksNothing, AsksSomething}
 use Rattle.script_text.specs.declared.error.Flaw.TheVariants as flaw
