@@ -1,19 +1,18 @@
 -- What the words of a line and what follows it ask for: one request, or nothing.
-use Rattle.std.specs.Prelude.{◌≡◌, ◌≢◌, ◌<◌, ◌≤◌, ◌+◌, ◌*◌, ◌^◌, ℕ, List, [], ◌∷◌, ◌++◌, length, codes, drop, false, nat_eq, IsTrue, refl}
+use Rattle.std.specs.Prelude.{◌≡◌, ◌≢◌, ◌<◌, ◌≤◌, ◌^◌, ℕ, List, [], ◌∷◌, ◌++◌, length, codes, drop, IsTrue, refl}
 use Rattle.std.specs.List.{list_all}
-use Rattle.std.proofs.Common.{sym, ◌∙◌, ap, arith, subst, length-append}
+use Rattle.std.proofs.Common.{sym, ◌∙◌, ap, arith, subst}
 use Rattle.std.proofs.lemmas.Fmt.{decimal_injective}
 use Rattle.mdbox_base.specs.Numbers.{decimal_text}
-use Rattle.mdbox_base.specs.Words.{IsNumber, IsName, is_other_than}
-use Rattle.mdbox_base.specs.declared.ids.Uid.{Uid}
+use Rattle.mdbox_base.specs.Words.{IsName, is_other_than}
 use Rattle.mdbox_base.specs.declared.requests.Request.{Request}
 use Rattle.mdbox_base.specs.declared.requests.Request.TheVariants as request
-use Rattle.script_text.specs.Script.{name_word, request_words, spaced, message_text, FitsScript}
-use Rattle.script_text.specs.Reading.{IsRequestOf, AsksNothing, IsOneWord, verb_text}
+use Rattle.script_text.specs.Script.{name_word, request_words, spaced}
+use Rattle.script_text.specs.Reading.{IsRequestOf, AsksNothing, AsksSomething, IsOneWord, verb_text}
 use Rattle.script_text.specs.declared.verb.Verb.{Verb}
 use Rattle.script_text.specs.declared.verb.Verb.TheVariants as verb
 use Rattle.script_text.proofs.CutLemmas.{until_same, no_cut}
-use Rattle.script_text.proofs.RequestLemmas.{differ, name_then, number_then, short_name, small_uid}
+use Rattle.script_text.proofs.RequestLemmas.{differ, name_then, number_then, short_name}
 
 -- ---- one word
 
@@ -63,16 +62,45 @@ nothing_unknown_of words word arguments rest after e clear none (request.Rename 
 pub nothing_unknown : (words word arguments rest : List ℕ) → words ≡ word ++ 32 ∷ arguments → IsTrue (list_all (is_other_than 32) word) → ((v : Verb) → word ≢ verb_text v) → AsksNothing words rest
 nothing_unknown words word arguments rest e clear none asked after is = nothing_unknown_of words word arguments rest after e clear none asked is
 
--- a delivery whose message isn't there
-short_delivery_of : (arguments rest after name : List ℕ) (time size : ℕ) → IsName name → time < 2 ^ 64 → size < 2 ^ 64 → arguments ≡ name_word name ++ 32 ∷ (decimal_text time ++ 32 ∷ decimal_text size)
-    → ((message more : List ℕ) → length message ≡ size → size ≤ 67108864 → rest ≢ (message ++ 10 ∷ []) ++ more) → (asked : Request) → IsRequestOf (codes "deliver" ++ 32 ∷ arguments) rest asked after → ⊥
-short_delivery_of arguments rest after name time size n tl sl e none (request.Deliver other t message) is =
-    let r = name_then other name (decimal_text t ++ 32 ∷ decimal_text (length message)) (decimal_text time ++ 32 ∷ decimal_text size) (short_name other is.fits.0) (short_name name n) (sym (ap (drop 8) is.words_are) ∙ e) in
+-- what a delivery is, whose name, time and size these are
+delivery_of : (arguments rest after octets : List ℕ) (time size : ℕ) → length octets < 2 ^ 64 → time < 2 ^ 64 → size < 2 ^ 64 → arguments ≡ name_word octets ++ 32 ∷ (decimal_text time ++ 32 ∷ decimal_text size)
+    → (asked : Request) → IsRequestOf (codes "deliver" ++ 32 ∷ arguments) rest asked after → IsName octets × (message : List ℕ) × (length message ≡ size) × (size ≤ 67108864) × (rest ≡ (message ++ 10 ∷ []) ++ after)
+delivery_of arguments rest after octets time size n tl sl e (request.Deliver name t message) is =
+    let r = name_then name octets (decimal_text t ++ 32 ∷ decimal_text (length message)) (decimal_text time ++ 32 ∷ decimal_text size) (short_name name is.fits.0) n (sym (ap (drop 8) is.words_are) ∙ e) in
     let s = number_then t time (decimal_text (length message)) (decimal_text size) is.fits.1 tl r.1 in
     let same : length message ≡ size = decimal_injective (length message) size (omega (arith, is.fits.2)) sl s.1 in
-    none message after same (omega (arith, is.fits.2, same)) is.message_is
-short_delivery_of arguments rest after name time size n tl sl e none other is = differ (codes "deliver" ++ 32 ∷ arguments) (spaced (request_words other)) is.words_are refl
+    (subst IsName r.0 is.fits.0, message, same, omega (arith, is.fits.2, same), is.message_is)
+delivery_of arguments rest after octets time size n tl sl e other is = absurd (differ (codes "deliver" ++ 32 ∷ arguments) (spaced (request_words other)) is.words_are refl)
 
-pub short_delivery : (arguments rest name : List ℕ) (time size : ℕ) → IsName name → time < 2 ^ 64 → size < 2 ^ 64 → arguments ≡ name_word name ++ 32 ∷ (decimal_text time ++ 32 ∷ decimal_text size)
+-- a delivery whose message isn't there
+pub short_delivery : (arguments rest octets : List ℕ) (time size : ℕ) → length octets < 2 ^ 64 → time < 2 ^ 64 → size < 2 ^ 64 → arguments ≡ name_word octets ++ 32 ∷ (decimal_text time ++ 32 ∷ decimal_text size)
     → ((message more : List ℕ) → length message ≡ size → size ≤ 67108864 → rest ≢ (message ++ 10 ∷ []) ++ more) → AsksNothing (codes "deliver" ++ 32 ∷ arguments) rest
-short_delivery arguments rest name time size n tl sl e none asked after is = short_delivery_of arguments rest after name time size n tl sl e none asked is
+short_delivery arguments rest octets time size n tl sl e none asked after is =
+    let d = delivery_of arguments rest after octets time size n tl sl e asked is in
+    none d.1 after d.2 d.3 d.4
+
+-- a delivery to no mailbox
+pub unnamed_delivery : (arguments rest octets : List ℕ) (time size : ℕ) → length octets < 2 ^ 64 → time < 2 ^ 64 → size < 2 ^ 64 → arguments ≡ name_word octets ++ 32 ∷ (decimal_text time ++ 32 ∷ decimal_text size)
+    → (IsName octets → ⊥) → AsksNothing (codes "deliver" ++ 32 ∷ arguments) rest
+unnamed_delivery arguments rest octets time size n tl sl e none asked after is = none (delivery_of arguments rest after octets time size n tl sl e asked is).0
+
+-- arguments of no delivery
+no_delivery_of : (arguments rest after : List ℕ) → ((name : List ℕ) (time size : ℕ) → length name < 2 ^ 64 → time < 2 ^ 64 → size < 2 ^ 64 → arguments ≢ name_word name ++ 32 ∷ (decimal_text time ++ 32 ∷ decimal_text size)) → (asked : Request) → IsRequestOf (codes "deliver" ++ 32 ∷ arguments) rest asked after → ⊥
+no_delivery_of arguments rest after none (request.Deliver name t message) is = none name t (length message) (short_name name is.fits.0) is.fits.1 (omega (arith, is.fits.2)) (ap (drop 8) is.words_are)
+no_delivery_of arguments rest after none other is = differ (codes "deliver" ++ 32 ∷ arguments) (spaced (request_words other)) is.words_are refl
+
+pub no_delivery : (arguments rest : List ℕ) → ((name : List ℕ) (time size : ℕ) → length name < 2 ^ 64 → time < 2 ^ 64 → size < 2 ^ 64 → arguments ≢ name_word name ++ 32 ∷ (decimal_text time ++ 32 ∷ decimal_text size)) → AsksNothing (codes "deliver" ++ 32 ∷ arguments) rest
+no_delivery arguments rest none asked after is = no_delivery_of arguments rest after none asked is
+
+-- a delivery that is there
+pub whole_delivery : (arguments rest name message after : List ℕ) (time size : ℕ) → IsName name → time < 2 ^ 64 → arguments ≡ name_word name ++ 32 ∷ (decimal_text time ++ 32 ∷ decimal_text size)
+    → length message ≡ size → size ≤ 67108864 → rest ≡ (message ++ 10 ∷ []) ++ after → AsksSomething (codes "deliver" ++ 32 ∷ arguments) rest
+whole_delivery arguments rest name message after time size n tl e many few is = (
+  request.Deliver name time message,
+  after,
+  record {
+    fits = (n, tl, omega (arith, many, few));
+    words_are = ap (λ (t : List ℕ). codes "deliver" ++ 32 ∷ t) e ∙ ap (λ (k : ℕ). codes "deliver" ++ 32 ∷ (name_word name ++ 32 ∷ (decimal_text time ++ 32 ∷ decimal_text k))) (sym many);
+    message_is = is;
+  },
+)

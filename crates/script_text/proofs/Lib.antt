@@ -4,6 +4,7 @@ pub mod FlawLemmas
 pub mod MadeLemmas
 pub mod NeedLemmas
 pub mod RequestLemmas
+mod RowLemmas
 pub mod ScriptLemmas
 pub mod SpacedLemmas
 pub mod TakeLemmas

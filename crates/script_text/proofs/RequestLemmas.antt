@@ -1,5 +1,5 @@
 -- Requests of a script have one text each, and none begins another.
-use Rattle.std.specs.Prelude.{◌≡◌, ◌<◌, ◌+◌, ◌*◌, ◌^◌, ℕ, List, [], ◌∷◌, ◌++◌, length, drop, false, nat_eq, IsTrue, refl}
+use Rattle.std.specs.Prelude.{◌≡◌, ◌<◌, ◌≤◌, ◌+◌, ◌*◌, ◌^◌, ℕ, List, [], ◌∷◌, ◌++◌, length, drop, false, nat_eq, IsTrue, refl}
 use Rattle.std.specs.List.{list_all}
 use Rattle.std.proofs.Common.{sym, ◌∙◌, ap, arith, append_assoc, append-nil}
 use Rattle.std.proofs.lemmas.Bool.{eqb-false}
@@ -9,7 +9,8 @@ use Rattle.mdbox_base.specs.Words.{IsNumber, IsName, is_other_than}
 use Rattle.mdbox_base.specs.declared.ids.Uid.{Uid}
 use Rattle.mdbox_base.specs.declared.requests.Request.{Request}
 use Rattle.mdbox_base.specs.declared.requests.Request.TheVariants as request
-use Rattle.script_text.specs.Script.{name_word, request_words, spaced, message_text, request_text, FitsScript, FitsLanes}
+use Rattle.script_text.specs.Script.{name_word, request_words, spaced, message_text, request_text, BeginsRequest, FitsScript, FitsLanes}
+use Rattle.script_text.specs.Reading.{AsksSomething}
 use Rattle.script_text.proofs.CutLemmas.{until_same, all_both, printing_clear, number_clear, number_until, same_front}
 use Rattle.script_text.proofs.SpacedLemmas.{counted_clear, counted_same}
 
@@ -81,6 +82,18 @@ pub parts_of : (lanes : ℕ) (asked : ℕ × Request) (text line rest after : Li
 parts_of lanes asked text line rest after small p clear e f =
     until_same 10 line (decimal_text asked.0 ++ 32 ∷ spaced (request_words asked.1)) rest (message_text asked.1 ++ after) clear (line_clear lanes asked small p) (sym e ∙ f ∙ laid_out asked after)
 
+-- where the lane and the words of a request and what follows them stand, a request begins
+pub begins_with : (lanes lane : ℕ) (text line words rest : List ℕ) → 1 ≤ lane → lane ≤ lanes → text ≡ line ++ 10 ∷ rest → line ≡ decimal_text lane ++ 32 ∷ words → AsksSomething words rest → BeginsRequest lanes text
+begins_with lanes lane text line words rest low high e l some =
+    let asked : ℕ × Request = (lane, some.0) in
+    let is = some.2 in
+    let head : line ≡ decimal_text lane ++ 32 ∷ spaced (request_words some.0) = l ∙ ap (λ (t : List ℕ). decimal_text lane ++ 32 ∷ t) is.words_are in (
+      asked,
+      some.1,
+      record { first = low; last = high; fits = is.fits },
+      e ∙ ap (λ (t : List ℕ). t ++ 10 ∷ rest) head ∙ ap (λ (t : List ℕ). (decimal_text lane ++ 32 ∷ spaced (request_words some.0)) ++ 10 ∷ t) is.message_is ∙ sym (laid_out asked some.1),
+    )
+
 -- ---- names
 
 pub name_same : (m n a b : List ℕ) → length m < 2 ^ 64 → length n < 2 ^ 64 → name_word m ++ a ≡ name_word n ++ b → (m ≡ n) × (a ≡ b)
@@ -99,11 +112,15 @@ name_cut digits rest name more clear lt e = until_same 58 digits (decimal_text (
 pub name_alone_same : (m n : List ℕ) → IsName m → IsName n → name_word m ≡ name_word n → m ≡ n
 name_alone_same m n p q e = (name_same m n [] [] (short_name m p) (short_name n q) (ap (λ (t : List ℕ). t ++ []) e)).0
 
-pub name_only : (word octets rest name : List ℕ) → word ≡ name_word octets ++ rest → length octets < 2 ^ 64 → IsName name → word ≡ name_word name → (octets ≡ name) × (rest ≡ [])
-name_only word octets rest name p lt n e = name_same octets name rest [] lt (short_name name n) (sym p ∙ e ∙ sym (append-nil (name_word name)))
+pub name_only : (word octets rest name : List ℕ) → word ≡ name_word octets ++ rest → length octets < 2 ^ 64 → length name < 2 ^ 64 → word ≡ name_word name → (octets ≡ name) × (rest ≡ [])
+name_only word octets rest name p lt n e = name_same octets name rest [] lt n (sym p ∙ e ∙ sym (append-nil (name_word name)))
 
-pub name_front : (word octets rest name more : List ℕ) → word ≡ name_word octets ++ rest → length octets < 2 ^ 64 → IsName name → word ≡ name_word name ++ 32 ∷ more → (octets ≡ name) × (rest ≡ 32 ∷ more)
-name_front word octets rest name more p lt n e = name_same octets name rest (32 ∷ more) lt (short_name name n) (sym p ∙ e)
+pub name_front : (word octets rest name more : List ℕ) → word ≡ name_word octets ++ rest → length octets < 2 ^ 64 → length name < 2 ^ 64 → word ≡ name_word name ++ 32 ∷ more → (octets ≡ name) × (rest ≡ 32 ∷ more)
+name_front word octets rest name more p lt n e = name_same octets name rest (32 ∷ more) lt n (sym p ∙ e)
+
+-- octets that are a word alone
+pub name_is : (m n : List ℕ) → length m < 2 ^ 64 → length n < 2 ^ 64 → name_word m ≡ name_word n → m ≡ n
+name_is m n p q e = (name_same m n [] [] p q (ap (λ (t : List ℕ). t ++ []) e)).0
 
 pub name_then : (m n a b : List ℕ) → length m < 2 ^ 64 → length n < 2 ^ 64 → name_word m ++ 32 ∷ a ≡ name_word n ++ 32 ∷ b → (m ≡ n) × (a ≡ b)
 name_then m n a b p q e =
@@ -114,8 +131,10 @@ name_then m n a b p q e =
 pub number_then : (m n : ℕ) (a b : List ℕ) → m < 2 ^ 64 → n < 2 ^ 64 → decimal_text m ++ 32 ∷ a ≡ decimal_text n ++ 32 ∷ b → (m ≡ n) × (a ≡ b)
 number_then m n a b p q e = number_until 32 m n a b refl p q e
 
-pub name_uid_then : (m n : List ℕ) (u v : ℕ) (a b : List ℕ) → IsName m → IsName n → IsNumber u → IsNumber v → name_word m ++ 32 ∷ (decimal_text u ++ 32 ∷ a) ≡ name_word n ++ 32 ∷ (decimal_text v ++ 32 ∷ b) → a ≡ b
-name_uid_then m n u v a b p q h k e = (number_then u v a b (small_uid u h) (small_uid v k) (name_then m n (decimal_text u ++ 32 ∷ a) (decimal_text v ++ 32 ∷ b) (short_name m p) (short_name n q) e).1).1
+pub name_uid_then : (m n : List ℕ) (u v : ℕ) (a b : List ℕ) → length m < 2 ^ 64 → length n < 2 ^ 64 → IsNumber u → IsNumber v → name_word m ++ 32 ∷ (decimal_text u ++ 32 ∷ a) ≡ name_word n ++ 32 ∷ (decimal_text v ++ 32 ∷ b) → (m ≡ n) × (a ≡ b)
+name_uid_then m n u v a b p q h k e =
+    let r = name_then m n (decimal_text u ++ 32 ∷ a) (decimal_text v ++ 32 ∷ b) p q e in
+    (r.0, (number_then u v a b (small_uid u h) (small_uid v k) r.1).1)
 
 -- ---- one request for one line and what follows it
 

@@ -27,7 +27,7 @@ spaced_each word (next ∷ words) = ap (λ (t : List ℕ). word ++ 32 ∷ t) (sp
 -- ---- octets that don't occur
 
 -- no blank and no control octet is one of an atom
-atom_clear : (mark : ℕ) (word : List ℕ) → mark < 33 → All IsAtomOctet word → HasNone mark word
+pub atom_clear : (mark : ℕ) (word : List ℕ) → mark < 33 → All IsAtomOctet word → HasNone mark word
 atom_clear mark [] low h = refl
 atom_clear mark (c ∷ word) low h =
     let at : IsAtomOctet c = h 0 0 (omega arith) in
@@ -44,7 +44,7 @@ each_has_none mark (word ∷ words) other h =
 
 -- ---- the first word
 
-at_space : (words : List (List ℕ)) (more : List ℕ) → IsAtSpace more → IsAtSpace (each_spaced words ++ more)
+pub at_space : (words : List (List ℕ)) (more : List ℕ) → IsAtSpace more → IsAtSpace (each_spaced words ++ more)
 at_space [] more h = h
 at_space (word ∷ words) more h = refl
 

@@ -1,6 +1,7 @@
 -- What is found of a request in the words of a line and what follows the line.
-use Rattle.std.specs.Prelude.{◌≡◌, ◌≤◌, ◌<◌, ◌^◌, ℕ, List, [], ◌∷◌, ◌++◌, flat_map, All, IsTrue, codes}
+use Rattle.std.specs.Prelude.{◌≡◌, ◌≤◌, ◌<◌, ◌^◌, ℕ, List, [], ◌∷◌, ◌++◌, length, flat_map, All, IsTrue, codes}
 use Rattle.std.specs.List.{list_all}
+use Rattle.mdbox_base.specs.Keywords.{AreWords}
 use Rattle.mdbox_base.specs.Numbers.{decimal_text}
 use Rattle.mdbox_base.specs.Words.{IsName, is_other_than}
 use Rattle.mdbox_base.specs.declared.requests.Request.{Request}
@@ -20,6 +21,9 @@ pub record IsRequestOf (words rest : List ℕ) (asked : Request) (after : List �
 
 abbrev pub AsksNothing : List ℕ → List ℕ → Type 0
 AsksNothing words rest = (asked : Request) (after : List ℕ) → IsRequestOf words rest asked after → ⊥
+
+abbrev pub AsksSomething : List ℕ → List ℕ → Type 0
+AsksSomething words rest = (asked : Request) × (after : List ℕ) × IsRequestOf words rest asked after
 
 -- a request of one word
 abbrev pub IsOneWord : Request → Type 0
@@ -49,6 +53,10 @@ each_spaced words = flat_map (λ word. 32 ∷ word) words
 -- the text is these words, which have no space in them, each behind one space
 abbrev pub AreTextsOf : List (List ℕ) → List ℕ → Type 0
 AreTextsOf texts text = All (λ word. IsTrue (list_all (is_other_than 32) word)) texts × (text ≡ each_spaced texts)
+
+-- the text is keywords behind their number
+abbrev pub AreCounted : List ℕ → Type 0
+AreCounted text = (keywords : List (List ℕ)) × AreWords keywords × (text ≡ spaced (decimal_text (length keywords) ∷ keywords))
 
 -- the text is at its end, or begins with a space
 abbrev pub IsAtSpace : List ℕ → Type 0

@@ -1,49 +1,85 @@
-// Keywords behind their number.
-ghost use Rattle.std.specs.Prelude.{◌≡◌, ◌≢◌, ◌≤◌, ◌++◌, ◌∷◌, ℕ, List, length, IsTrue, IfOk, IsErrOf};
+// Keywords behind their number: looked at whole before one is copied.
+ghost use Rattle.std.specs.Prelude.{◌≡◌, ◌≢◌, ◌++◌, ◌∷◌, ◌↔◌, ℕ, List, length, IsTrue, IfOk, IfSome, IfNone};
+ghost use Rattle.std.specs.Cmp.Lexicographic.{slice_cmp};
 ghost use Rattle.std.specs.List.{list_all};
-ghost use Rattle.mdbox_base.specs.Keywords.{AreWords};
+ghost use Rattle.std.specs.Ordering.{nat_cmp};
+ghost use Rattle.std.specs.declared.cmp.Ordering.TheVariants.{Less};
+ghost use Rattle.mdbox_base.specs.Keywords.{AreWords, IsKeyword};
 ghost use Rattle.mdbox_base.specs.Numbers.{decimal_text};
 ghost use Rattle.mdbox_base.specs.Words.{is_other_than};
-ghost use Rattle.script_text.specs.Reading.{AreTextsOf, IsAtSpace};
+ghost use Rattle.script_text.specs.Reading.{AreCounted, AreTextsOf, IsAtSpace, each_spaced};
 ghost use Rattle.script_text.specs.Script.{spaced};
-ghost use Rattle.script_text.specs.declared.error.Flaw.TheVariants as flaw;
 
-use crate::error::Flaw;
-use mdbox_base::{NoMemory, Octets, Seq, Words, are_words, read_decimal};
+use mdbox_base::{NoMemory, Octets, Seq, Words, is_keyword, read_decimal};
 use memchr::memchr;
 use std::alloc::Global;
 
 /// How many keywords a message has at most.
-const MOST_KEYWORDS: usize = 32;
+const MOST_KEYWORDS: u64 = 32;
 
-/// The keywords behind their number.
-pub fn counted_words(alloc: Global, words: &[u8]) -> Result<Words, Flaw>
-    ensures found { IfOk result (λ keywords. AreWords keywords × (words.now ≡ spaced (decimal_text (length keywords) ∷ keywords))) }
-    ensures bad { IsErrOf result flaw.Bad → (keywords : List (List ℕ)) → AreWords keywords → words.now ≢ spaced (decimal_text (length keywords) ∷ keywords) }
+/// Whether words are keywords behind their number.
+pub fn are_counted(words: &[u8]) -> bool
+    ensures { IsTrue result ↔ AreCounted words.now }
 {
     let (number, rest) = first_word(words);
     let Some(count) = read_decimal(number) else {
-        return Err(Flaw::Bad);
+        return false;
     };
-    let texts = texts_of(alloc, rest)?;
-    if texts.length() as u64 != count || !are_words(texts.as_slice()) {
-        return Err(Flaw::Bad);
+    let Some(many) = keywords_in(rest) else {
+        return false;
+    };
+    count == many
+}
+
+/// How many keywords a text is, each behind one space and after the one before it in order.
+fn keywords_in(text: &[u8]) -> Option<u64>
+    requires { IsAtSpace text.now }
+    ensures some { IfSome result (λ many. (words : List (List ℕ)) × AreWords words × (text.now ≡ each_spaced words) × (length words ≡ many)) }
+    ensures none { IfNone result ((words : List (List ℕ)) → AreWords words → text.now ≢ each_spaced words) }
+{
+    let mut before: &[u8] = &[];
+    let mut many = 0;
+    let mut left = text;
+    while let Some(words) = left.strip_prefix(b" ") {
+        let (word, behind) = first_word(words);
+        if many == MOST_KEYWORDS {
+            return None;
+        }
+        if !follows(before, word) {
+            return None;
+        }
+        before = word;
+        many += 1;
+        left = behind;
     }
+    Some(many)
+}
+
+/// Whether a word is a keyword, and after another in order.
+fn follows(before: &[u8], word: &[u8]) -> bool
+    ensures { IsTrue result ↔ (IsKeyword word.now × (slice_cmp nat_cmp before.now word.now ≡ Less)) }
+{
+    is_keyword(word) && before < word
+}
+
+/// The keywords behind their number.
+pub fn counted_words(alloc: Global, words: &[u8]) -> Result<Words, NoMemory>
+    requires { AreCounted words.now }
+    ensures { IfOk result (λ keywords. AreWords keywords × (words.now ≡ spaced (decimal_text (length keywords) ∷ keywords))) }
+{
+    let (_number, rest) = first_word(words);
+    let texts = texts_of(alloc, rest)?;
     Ok(Words::of(texts))
 }
 
-/// Words without a space, each behind one space. More than 32 are too many.
-fn texts_of(alloc: Global, text: &[u8]) -> Result<Seq<Octets>, Flaw>
+/// Words without a space, each behind one space.
+fn texts_of(alloc: Global, text: &[u8]) -> Result<Seq<Octets>, NoMemory>
     requires { IsAtSpace text.now }
-    ensures found { IfOk result (λ texts. AreTextsOf texts text.now) }
-    ensures bad { IsErrOf result flaw.Bad → (texts : List (List ℕ)) → length texts ≤ 32 → AreTextsOf texts text.now → ⊥ }
+    ensures { IfOk result (λ texts. AreTextsOf texts text.now) }
 {
     let mut texts = Seq::empty(alloc);
     let mut left = text;
     while let Some(words) = left.strip_prefix(b" ") {
-        if texts.length() == MOST_KEYWORDS {
-            return Err(Flaw::Bad);
-        }
         let (word, behind) = first_word(words);
         texts.push(octets_of(alloc, word)?)?;
         left = behind;

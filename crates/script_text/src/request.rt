@@ -1,14 +1,14 @@
 // One request of a script, read.
 ghost use Rattle.std.specs.Prelude.{◌≡◌, ◌≢◌, ◌≤◌, ◌++◌, ◌∷◌, [], ℕ, List, length, IfOk, IfSome, IfNone, IsErrOf, codes};
 ghost use Rattle.mdbox_base.specs.Numbers.{decimal_text};
-ghost use Rattle.script_text.specs.Script.{FitsLanes, FitsScript, BeginsNoRequest, request_text, request_words, spaced};
-ghost use Rattle.script_text.specs.Reading.{IsRequestOf, AsksNothing, IsOneWord, verb_text};
+ghost use Rattle.script_text.specs.Script.{FitsLanes, FitsScript, BeginsNoRequest, BeginsRequest, request_text, request_words, spaced};
+ghost use Rattle.script_text.specs.Reading.{IsRequestOf, AsksNothing, AsksSomething, IsOneWord, verb_text};
 ghost use Rattle.script_text.specs.declared.error.Flaw.TheVariants as flaw;
 ghost use Rattle.mdbox_base.specs.declared.requests.Request.{Request};
 
 use crate::arguments::{
-    name_alone, name_and_name, name_and_uid, name_time_size, name_uid_flags, name_uid_name,
-    name_uid_words,
+    name_alone, name_and_name, name_and_uid, name_from, name_uid_flags, name_uid_name,
+    name_uid_words, octets_time_size,
 };
 use crate::cut::cut;
 use crate::error::Flaw;
@@ -23,6 +23,7 @@ pub const MOST_OCTETS: u64 = 67_108_864;
 pub fn request_at(alloc: Global, text: &[u8], lanes: u32) -> Result<((u32, Request), &[u8]), Flaw>
     ensures found { IfOk result (λ x. FitsLanes lanes x.0 × (text.now ≡ request_text x.0 ++ x.1.now)) }
     ensures bad { IsErrOf result flaw.Bad → BeginsNoRequest lanes text.now }
+    ensures memory { IsErrOf result flaw.NoMemory → BeginsRequest lanes text.now }
 {
     let Some((line, rest)) = cut(text, b'\n') else {
         return Err(Flaw::Bad);
@@ -55,6 +56,7 @@ pub fn asked_at<'a>(
 ) -> Result<(Request, &'a [u8]), Flaw>
     ensures found { IfOk result (λ x. IsRequestOf words.now rest.now x.0 x.1.now) }
     ensures bad { IsErrOf result flaw.Bad → AsksNothing words.now rest.now }
+    ensures memory { IsErrOf result flaw.NoMemory → AsksSomething words.now rest.now }
 {
     let Some((word, arguments)) = cut(words, b' ') else {
         return match asked_alone(words) {
@@ -90,6 +92,7 @@ fn asked_with<'a>(
 ) -> Result<(Request, &'a [u8]), Flaw>
     ensures found { IfOk result (λ x. IsRequestOf (verb_text verb ++ 32 ∷ arguments.now) rest.now x.0 x.1.now) }
     ensures bad { IsErrOf result flaw.Bad → AsksNothing (verb_text verb ++ 32 ∷ arguments.now) rest.now }
+    ensures memory { IsErrOf result flaw.NoMemory → AsksSomething (verb_text verb ++ 32 ∷ arguments.now) rest.now }
 {
     match verb {
         Verb::Deliver => delivery_at(alloc, arguments, rest),
@@ -144,11 +147,15 @@ fn delivery_at<'a>(
 ) -> Result<(Request, &'a [u8]), Flaw>
     ensures found { IfOk result (λ x. IsRequestOf (codes "deliver" ++ 32 ∷ arguments.now) rest.now x.0 x.1.now) }
     ensures bad { IsErrOf result flaw.Bad → AsksNothing (codes "deliver" ++ 32 ∷ arguments.now) rest.now }
+    ensures memory { IsErrOf result flaw.NoMemory → AsksSomething (codes "deliver" ++ 32 ∷ arguments.now) rest.now }
 {
-    let (name, time, size) = name_time_size(alloc, arguments)?;
+    let Some((origin, time, size)) = octets_time_size(arguments) else {
+        return Err(Flaw::Bad);
+    };
     let Some((octets, rest)) = message_at(rest, size) else {
         return Err(Flaw::Bad);
     };
+    let name = name_from(alloc, origin)?;
     let mut message = Octets::empty(alloc);
     message.push_all(octets)?;
     Ok((

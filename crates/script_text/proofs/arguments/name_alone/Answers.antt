@@ -1,22 +1,9 @@
-use Rattle.std.proofs.Common.{sym, ◌∙◌, ◌≡◌, ap, arith, append-nil, length, [], ◌<◌, rules}
-use Rattle.std.proofs.lemmas.Grind.{common_steps}
-use Rattle.script_text.specs.Script.{name_word}
-use Rattle.script_text.proofs.RequestLemmas.{name_only, short_name}
+use Rattle.std.proofs.Common.{sym, ◌∙◌}
+use Rattle.script_text.proofs.RequestLemmas.{name_is, short_name}
 use Rattle.script_text.proofs.arguments.name_alone.Goals as goal
-
-pub returns-in_default-clause-bad : goal.returns-in_default-clause-bad
-returns-in_default-clause-bad c = λ is name n e. c.in_default.ensures.none name [] (short_name name n) (e ∙ sym (append-nil (name_word name)))
-
-pub returns-then-not-is_empty-clause-bad : goal.returns-then-not-is_empty-clause-bad
-returns-then-not-is_empty-clause-bad c = λ is name n e.
-    let found = c.in-Some.ensures.some in
-    let r = name_only c.args.word.now c.in-Some.octets.now c.in-Some.rest.now name found.0 found.1 n e in
-    let none : length c.in-Some.rest.now ≡ 0 = ap length r.1 in
-    let some : 0 < length c.in-Some.rest.now = first_of (search rules, grind (arith, common_steps)) in
-    omega (arith, none, some)
 
 pub returns-clause-bad : goal.returns-clause-bad
 returns-clause-bad c = λ is name n e.
     let found = c.in-Some.ensures.some in
-    let r = name_only c.args.word.now c.in-Some.octets.now c.in-Some.rest.now name found.0 found.1 n e in
-    c.name_from.ensures.bad is (rw r.0 n)
+    let same = name_is c.in-Some.octets.now name found.0 (short_name name n) (sym found.1 ∙ e) in
+    c.name_from.ensures.bad is (rw same n)
