@@ -1,5 +1,6 @@
 use Rattle.std.proofs.Common.{refl}
 use Rattle.store_core.specs.Value.{indexes_of}
+use Rattle.script_run.proofs.EndImageLemmas.{safe_in_the_end}
 use Rattle.script_run.proofs.ShownLemmas.{opens_again}
 use Rattle.mdbox_top.proofs.BoxesLemmas.{shown_rows}
 use Rattle.mdbox_top.proofs.boxes.open_alone.Goals as goal
@@ -27,3 +28,8 @@ returns-in-Ok-clause-moments g c =
 
 pub returns-in-Ok-clause-unfailed : goal.returns-in-Ok-clause-unfailed
 returns-in-Ok-clause-unfailed g c = c.in-Ok.ensures.unfailed (λ f. f)
+
+pub returns-in-Err-clause-refused : goal.returns-in-Err-clause-refused
+returns-in-Err-clause-refused g c =
+    let o = c.in-Err.ensures in
+    record { cause = o.refused; idle = o.idle; memory = o.memory; untouched = o.untouched; stays = o.mail_stays; closed_well = o.closed_well; moments = o.any_moment; safe = λ lists at. safe_in_the_end lists (g.D.Disk.history c.args.disk) (g.D.Disk.history c.in-Err.refused.disk) (g.met.D.Disk.reads_image c.in-Err.refused.disk) (o.any_moment lists at) at; settled_again = o.settled_again; carried = o.carried; fault = o.fault; unfailed = o.unfailed }
