@@ -55,8 +55,8 @@ abbrev pub AreTextsOf : List (List ℕ) → List ℕ → Type 0
 AreTextsOf texts text = All (λ word. IsTrue (list_all (is_other_than 32) word)) texts × (text ≡ each_spaced texts)
 
 -- the text is keywords behind their number
-abbrev pub AreCounted : List ℕ → Type 0
-AreCounted text = (keywords : List (List ℕ)) × AreWords keywords × (text ≡ spaced (decimal_text (length keywords) ∷ keywords))
+abbrev pub AreCountedWords : List ℕ → Type 0
+AreCountedWords text = (keywords : List (List ℕ)) × AreWords keywords × (text ≡ spaced (decimal_text (length keywords) ∷ keywords))
 
 -- the text is at its end, or begins with a space
 abbrev pub IsAtSpace : List ℕ → Type 0

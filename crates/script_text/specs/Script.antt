@@ -93,8 +93,8 @@ abbrev pub BeginsRequest : ℕ → List ℕ → Type 0
 BeginsRequest lanes text = (asked : ℕ × Request) × (rest : List ℕ) × FitsLanes lanes asked × (text ≡ request_text asked ++ rest)
 
 -- Behind some requests, fewer than 100,000, the text goes on with one more: so far it is well formed.
-abbrev pub GoesOn : ℕ → List ℕ → Type 0
-GoesOn lanes text = (good : List (ℕ × Request)) × (rest : List ℕ) × (length good < 100000) × AllByRecursion (FitsLanes lanes) good × (text ≡ script_text good ++ rest) × BeginsRequest lanes rest
+abbrev pub BeginsAnother : ℕ → List ℕ → Type 0
+BeginsAnother lanes text = (good : List (ℕ × Request)) × (rest : List ℕ) × (length good < 100000) × AllByRecursion (FitsLanes lanes) good × (text ≡ script_text good ++ rest) × BeginsRequest lanes rest
 
 -- Behind these requests the text goes on, with what is none, or with the 100,001st.
 pub record GoesWrong (lanes : ℕ) (text : List ℕ) (good : List (ℕ × Request)) (rest : List ℕ) : Type 0 where

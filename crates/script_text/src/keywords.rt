@@ -7,7 +7,7 @@ ghost use Rattle.std.specs.declared.cmp.Ordering.TheVariants.{Less};
 ghost use Rattle.mdbox_base.specs.Keywords.{AreWords, IsKeyword};
 ghost use Rattle.mdbox_base.specs.Numbers.{decimal_text};
 ghost use Rattle.mdbox_base.specs.Words.{is_other_than};
-ghost use Rattle.script_text.specs.Reading.{AreCounted, AreTextsOf, IsAtSpace, each_spaced};
+ghost use Rattle.script_text.specs.Reading.{AreCountedWords, AreTextsOf, IsAtSpace, each_spaced};
 ghost use Rattle.script_text.specs.Script.{spaced};
 
 use mdbox_base::{NoMemory, Octets, Seq, Words, is_keyword, read_decimal};
@@ -19,7 +19,7 @@ const MOST_KEYWORDS: u64 = 32;
 
 /// Whether words are keywords behind their number.
 pub fn are_counted(words: &[u8]) -> bool
-    ensures { IsTrue result ↔ AreCounted words.now }
+    ensures { IsTrue result ↔ AreCountedWords words.now }
 {
     let (number, rest) = first_word(words);
     let Some(count) = read_decimal(number) else {
@@ -64,7 +64,7 @@ fn follows(before: &[u8], word: &[u8]) -> bool
 
 /// The keywords behind their number.
 pub fn counted_words(alloc: Global, words: &[u8]) -> Result<Words, NoMemory>
-    requires { AreCounted words.now }
+    requires { AreCountedWords words.now }
     ensures { IfOk result (λ keywords. AreWords keywords × (words.now ≡ spaced (decimal_text (length keywords) ∷ keywords))) }
 {
     let (_number, rest) = first_word(words);

@@ -1,7 +1,7 @@
 // A script, read.
 ghost use Rattle.std.specs.Prelude.{◌≡◌, ◌⊎◌, Result, Err};
 ghost use Rattle.mdbox_base.specs.declared.script.Script.{Script};
-ghost use Rattle.script_text.specs.Script.{GoesOn, ScriptGives};
+ghost use Rattle.script_text.specs.Script.{BeginsAnother, ScriptGives};
 ghost use Rattle.script_text.specs.declared.error.ScriptError.{ScriptError};
 
 use crate::error::{Flaw, ScriptError};
@@ -17,7 +17,7 @@ pub const MOST_REQUESTS: usize = 100_000;
 pub fn read_script(alloc: Global, text: &[u8], lanes: u32) -> Result<Script, ScriptError>
     ensures gives { (result ≡ Err ScriptError.NoMemory) ⊎ ScriptGives lanes text.now result }
     ensures exactly { (answer : Result Script ScriptError) → ScriptGives lanes text.now answer → (result ≡ Err ScriptError.NoMemory) ⊎ (result ≡ answer) }
-    ensures memory { result ≡ Err ScriptError.NoMemory → GoesOn lanes text.now }
+    ensures memory { result ≡ Err ScriptError.NoMemory → BeginsAnother lanes text.now }
 {
     let mut requests = Seq::empty(alloc);
     let mut rest = text;

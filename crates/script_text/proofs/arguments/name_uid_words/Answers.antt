@@ -4,7 +4,7 @@ use Rattle.std.proofs.lemmas.Grind.{common_steps}
 use Rattle.mdbox_base.specs.Numbers.{decimal_text}
 use Rattle.mdbox_base.specs.Words.{IsName}
 use Rattle.script_text.specs.Script.{name_word, spaced}
-use Rattle.script_text.specs.Reading.{AreCounted}
+use Rattle.script_text.specs.Reading.{AreCountedWords}
 use Rattle.script_text.specs.declared.error.Flaw.TheVariants as flaw
 use Rattle.script_text.proofs.RequestLemmas.{name_uid_then, short_name}
 use Rattle.script_text.proofs.arguments.name_uid_words.Goals as goal
@@ -32,12 +32,12 @@ returns-in_err-name-clause-memory c =
     let named : IsErrOf c.from_residual.result flaw.NoMemory → IsName c.in-Some.octets.now = first_of (search rules, grind (arith, common_steps)) in
     let yes : IsTrue c.are_counted.result = first_of (search rules, grind (arith, common_steps)) in λ is.
     let found = c.in-Some.ensures.some in
-    let counted : AreCounted c.in-Some.rest.now = c.are_counted.ensures.0 yes in
+    let counted : AreCountedWords c.in-Some.rest.now = c.are_counted.ensures.0 yes in
     (c.in-Some.octets.now, c.in-Some.uid.0, counted.0, named is, found.1, counted.1, found.2 ∙ ap (λ (t : List ℕ). name_word c.in-Some.octets.now ++ 32 ∷ (decimal_text c.in-Some.uid.0 ++ 32 ∷ t)) counted.2)
 
 pub returns-in_err-keywords-clause-memory : goal.returns-in_err-keywords-clause-memory
 returns-in_err-keywords-clause-memory c =
     let yes : IsTrue c.are_counted.result = first_of (search rules, grind (arith, common_steps)) in λ is.
     let found = c.in-Some.ensures.some in
-    let counted : AreCounted c.in-Some.rest.now = c.are_counted.ensures.0 yes in
+    let counted : AreCountedWords c.in-Some.rest.now = c.are_counted.ensures.0 yes in
     (c.in-Some.octets.now, c.in-Some.uid.0, counted.0, c.in_ok-name.ensures.found.1, found.1, counted.1, found.2 ∙ ap (λ (t : List ℕ). name_word c.in-Some.octets.now ++ 32 ∷ (decimal_text c.in-Some.uid.0 ++ 32 ∷ t)) counted.2)
