@@ -82,9 +82,9 @@ box_switched_rewrites history old new draft result box s d means indexes same li
 -- ---- the log that was written
 
 pub box_written_anew : {D : Type 0} (old now : Option History) (v w : StoreValue D) (mailbox : BoxNo) (draft : BoxDraftValue) → (o : IsOpenBox mailbox.0 v.map.boxes v.boxes) → o.box.generation + 1 ≡ draft.generation → IsBoxFilled old (entries_anew mailbox.0 v) draft v → draft.number ≡ mailbox
-    → list_numbered v mailbox.0 ≡ Some draft.index.meaning → w.boxes ≡ boxes_with draft v.boxes → ((texts : List (List ℕ)) → Drafts draft.log texts old → Reads draft.log texts now)
+    → list_numbered v mailbox.0 ≡ Some draft.index.meaning → IsSameLog v.map_log w.map_log → w.boxes ≡ boxes_with draft v.boxes → ((texts : List (List ℕ)) → Drafts draft.log texts old → Reads draft.log texts now)
     → w.map ≡ map_applied (map_entry.G draft.number draft.generation) v.map → IfTold now (λ disk. disk (file.Box o.box.number o.box.generation) ≡ no_file) → IsBoxWritten mailbox.0 now v w
-box_written_anew old now v w mailbox draft o next f number means boxes reads taken gone =
+box_written_anew old now v w mailbox draft o next f number means log boxes reads taken gone =
     let found : Some o.open_box.index.meaning ≡ Some draft.index.meaning = sym o.meaning ∙ means in
     let same : draft.index.meaning ≡ o.open_box.index.meaning = sym (cc found) in
     let anew : entries_anew mailbox.0 v ≡ box_snapshot o.open_box.index.meaning = anew_there mailbox.0 v (Some o.open_box.index.meaning) o.open_box.index.meaning (sym o.meaning) refl in
@@ -102,6 +102,7 @@ box_written_anew old now v w mailbox draft o next f number means boxes reads tak
       means = same;
       reads = reads (map box_text (box_snapshot o.open_box.index.meaning)) (subst (λ (es : List BoxEntry). Drafts draft.log (map box_text es) old) anew f.reads);
       count = f.count ∙ ap length anew;
+      map_log = log;
       mapped = taken ∙ ap (λ (n : ℕ). map_applied (map_entry.G draft.number n) v.map) (sym (ap (λ h. h.generation) f.drafted.head));
       gone = subst (λ (name : FileName). IfTold now (λ disk. disk name ≡ no_file)) named_so gone;
     }

@@ -7,6 +7,7 @@ use Rattle.std.proofs.lemmas.List.{length-append, length-map}
 use Rattle.std.proofs.lemmas.List.Elements.{All-cons, All-get_or, All-nil}
 use Rattle.std.proofs.lemmas.Option.{get_or_from_slice_get, slice_get-map, slice_get_within}
 use Rattle.disk_model.specs.Disk.{History}
+use Rattle.gate_log.specs.State.{IsSameLog, LogState}
 use Rattle.map_index.specs.Shown.{shown_box}
 use Rattle.map_index.specs.declared.rows.BoxAt.{BoxAt}
 use Rattle.mdbox_base.specs.declared.entries.BoxEntry.{BoxEntry}
@@ -24,7 +25,7 @@ use Rattle.store_core.specs.Running.{AreBoxLogs}
 use Rattle.store_core.specs.Value.{StoreValue}
 use Rattle.store_core.specs.declared.store.OpenBox.{OpenBox}
 use Rattle.box_snapshot.specs.Due.{AreUndueTo, KeepsUndue, is_box_due, is_due_at, is_log_due, is_map_due, needs_of_box, needs_of_map}
-use Rattle.box_snapshot.specs.Rewrites.{IsBoxWritten, IsLogAnew, Rewrites, WritesOnce}
+use Rattle.box_snapshot.specs.Rewrites.{IsBoxWritten, IsLogAnew, IsMapAnew, IsMapWritten, Rewrites, WritesOnce}
 
 -- ---- a log that was written anew
 
@@ -254,6 +255,24 @@ due_written old mid new once undue boxes number due = elim (once number) [
   | inl same ↦ absurd (true≢false (sym due ∙ (ap (λ (o : Option OpenBox). option_map_or is_box_due o false) (sym same) ∙ none_due number mid.boxes undue)))
   | inr anew ↦ record { before = anew.before; now = anew.now; found = anew.found; found_now = ap (find (λ (b : OpenBox). b.number.0 == number)) boxes ∙ anew.found_now; generation = anew.generation; means = anew.means; count = anew.count }
 ]
+
+-- ---- the map log
+
+pub same_log_itself : (log : LogState) → IsSameLog log log
+same_log_itself log = record { name = refl; head = refl; room = refl }
+
+pub same_log_then : (a b c : LogState) → IsSameLog a b → IsSameLog b c → IsSameLog a c
+same_log_then a b c first second = record { name = second.name ∙ first.name; head = second.head ∙ first.head; room = second.room ∙ first.room }
+
+pub map_anew : {D : Type 0} (history : Option History) (old new : StoreValue D) → new ≡ record old { disk = new.disk; root_log = new.root_log; map_log = new.map_log; stopped = new.stopped } → IsMapWritten history old new → IsMapAnew old new
+map_anew history old new same w = record { generation = w.generation; count = w.count ∙ ap (λ (s : StoreValue _). length (map_snapshot s.map)) (sym same) }
+
+pub map_log_after : {D : Type 0} (a b c : StoreValue D) → IsSameLog a.map_log b.map_log → IsMapAnew b c ⊎ IsSameLog b.map_log c.map_log → IsMapAnew a c ⊎ IsSameLog a.map_log c.map_log
+map_log_after a b c log (inl did) = inl (record { generation = did.generation ∙ ap (λ h. h.generation + 1) log.head; count = did.count })
+map_log_after a b c log (inr still) = inr (same_log_then a.map_log b.map_log c.map_log log still)
+
+pub map_anew_after : {D : Type 0} (a b c : StoreValue D) → b ≡ a → is_map_due a ≡ true → (is_map_due b ≡ true → IsMapAnew b c) → IsMapAnew a c
+map_anew_after a b c same due written = subst (λ (s : StoreValue _). IsMapAnew s c) same (written (ap (λ (s : StoreValue _). is_map_due s) same ∙ due))
 
 -- ---- a store that isn't stopped, and without logs that were made
 

@@ -5,6 +5,7 @@ use Rattle.disk_model.specs.Name.{IsLogName}
 use Rattle.disk_model.specs.declared.name.FileName.{FileName}
 use Rattle.disk_model.specs.declared.name.FileName.TheVariants as file
 use Rattle.gate_log.specs.Log.{Reads}
+use Rattle.gate_log.specs.State.{IsSameLog}
 use Rattle.mdbox_base.specs.declared.entries.MapEntry.TheVariants as map_entry
 use Rattle.model_kept.specs.Kept.{MailIsKept}
 use Rattle.model_lists.specs.Lists.{Lists}
@@ -50,7 +51,8 @@ abbrev pub LeavesNoOldLogs : {D : Type 0} → (D → Option History) → StoreVa
 LeavesNoOldLogs history old new = Between (λ a b. OnlyLogsInForce old a → OnlyLogsInForce new b) (history old.disk) (history new.disk)
 
 -- The log of the mailbox with this number was written anew: it is of the next generation, it has an entry for each message and at
--- most one for the next UID, and it means the same. The map names it, and the old log is removed. Each other mailbox is as it was.
+-- most one for the next UID, and it means the same. The map names it, and the old log is removed. Each other mailbox is as it was, and
+-- the map log is of the same generation.
 pub record IsBoxWritten {D : Type 0} (number : ℕ) (history : Option History) (old new : StoreValue D) : Type 0 where
   pub before : OpenBox
   pub now : OpenBox
@@ -61,6 +63,7 @@ pub record IsBoxWritten {D : Type 0} (number : ℕ) (history : Option History) (
   pub means : now.index.meaning ≡ before.index.meaning
   pub count : now.log.count ≡ length (box_snapshot before.index.meaning)
   pub reads : Reads now.log (map box_text (box_snapshot before.index.meaning)) history
+  pub map_log : IsSameLog old.map_log new.map_log
   pub mapped : new.map ≡ map_applied (map_entry.G now.number now.log.head.generation) old.map
   pub gone : IfTold history (λ disk. disk (file.Box number before.log.head.generation) ≡ no_file)
 
@@ -85,3 +88,8 @@ pub record IsMapWritten {D : Type 0} (history : Option History) (old new : Store
   pub count : new.map_log.count ≡ length (map_snapshot old.map)
   pub reads : Reads new.map_log (map map_text (map_snapshot old.map)) history
   pub gone : IfTold history (λ disk. disk old.map_log.name ≡ no_file)
+
+-- The map log was written anew, whatever became of the others.
+pub record IsMapAnew {D : Type 0} (old new : StoreValue D) : Type 0 where
+  pub generation : new.map_log.head.generation ≡ old.map_log.head.generation + 1
+  pub count : new.map_log.count ≡ length (map_snapshot new.map)

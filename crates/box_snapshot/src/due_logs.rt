@@ -1,9 +1,10 @@
 // All logs that are due are written anew.
-ghost use Rattle.std.specs.Prelude.{ℕ, ◌≡◌, ◌↔◌, ◌<◌, ◌+◌, All, Ok, OnOk, IsErrOf, length, [], false, true};
+ghost use Rattle.std.specs.Prelude.{ℕ, ◌≡◌, ◌⊎◌, ◌↔◌, ◌<◌, ◌+◌, All, Ok, OnOk, IsErrOf, length, [], false, true};
 ghost use Rattle.disk_model.specs.FaultCounts.{NoFault, ChangeFaultCounted};
+ghost use Rattle.gate_log.specs.State.{IsSameLog};
 ghost use Rattle.store_core.specs.declared.error.StepError.TheVariants as step_error;
 ghost use Rattle.box_snapshot.specs.Due.{AreUndueTo, KeepsUndue, NoLogDue, is_box_due, is_due_at, is_map_due};
-ghost use Rattle.box_snapshot.specs.Rewrites.{IsLogAnew, LeavesNoOldLogs, Rewrites, WritesOnce};
+ghost use Rattle.box_snapshot.specs.Rewrites.{IsLogAnew, IsMapAnew, LeavesNoOldLogs, Rewrites, WritesOnce};
 ghost use Rattle.store_core.specs.Value.{StoreValue};
 
 use crate::box_log::snapshot_box;
@@ -28,6 +29,10 @@ pub fn snapshot_due<D: Disk>(store: &mut Store<D>) -> Result<(), StepError>
     // A log of a mailbox that isn't due stays.
     ensures kept { OnOk result (KeepsUndue store.old store.new) }
 
+    // The map log is written anew at most once; it is if it is due and no mailbox's log is.
+    ensures map_log { OnOk result (IsMapAnew store.old store.new ⊎ IsSameLog store.old.map_log store.new.map_log) }
+    ensures map_written { OnOk result (All (λ b. is_box_due b ≡ false) store.old.boxes → is_map_due store.old ≡ true → IsMapAnew store.old store.new) }
+
     // Where no log is due nothing changes, and nothing is refused.
     ensures idle { NoLogDue store.old → (result ≡ Ok tt) × (store.new ≡ store.old) }
 
@@ -48,6 +53,7 @@ fn snapshot_due_boxes<D: Disk>(store: &mut Store<D>) -> Result<(), StepError>
     ensures only { OnOk result (LeavesNoOldLogs D.history store.old store.new) }
     ensures kept { OnOk result (KeepsUndue store.old store.new) }
     ensures once { OnOk result (WritesOnce store.old store.new) }
+    ensures map_log { OnOk result (IsSameLog store.old.map_log store.new.map_log) }
     ensures idle { All (λ b. is_box_due b ≡ false) store.old.boxes → (result ≡ Ok tt) × (store.new ≡ store.old) }
     ensures stopped { IsErrOf result step_error.Stopped ↔ (store.new.stopped ≡ true) }
     ensures fault { ChangeFaultCounted (IsErrOf result step_error.Stopped) (D.faults store.old.disk) (D.faults store.new.disk) }
@@ -70,6 +76,7 @@ fn snapshot_due_at<D: Disk>(store: &mut Store<D>, place: u32) -> Result<(), Step
     ensures only { OnOk result (LeavesNoOldLogs D.history store.old store.new) }
     ensures kept { OnOk result (KeepsUndue store.old store.new) }
     ensures once { OnOk result ((first : StoreValue D) → WritesOnce first store.old → WritesOnce first store.new) }
+    ensures map_log { OnOk result (IsSameLog store.old.map_log store.new.map_log) }
     ensures idle { All (λ b. is_box_due b ≡ false) store.old.boxes → (result ≡ Ok tt) × (store.new ≡ store.old) }
     ensures stopped { IsErrOf result step_error.Stopped ↔ (store.new.stopped ≡ true) }
     ensures fault { ChangeFaultCounted (IsErrOf result step_error.Stopped) (D.faults store.old.disk) (D.faults store.new.disk) }
@@ -93,6 +100,8 @@ fn snapshot_due_map<D: Disk>(store: &mut Store<D>) -> Result<(), StepError>
     requires unmade { store.old.made ≡ [] }
     ensures rewrites { Rewrites D.history store.old store.new }
     ensures undue { OnOk result (is_map_due store.new ≡ false) }
+    ensures written { OnOk result (is_map_due store.old ≡ true → IsMapAnew store.old store.new) }
+    ensures map_log { OnOk result (IsMapAnew store.old store.new ⊎ IsSameLog store.old.map_log store.new.map_log) }
     ensures same { store.new.boxes ≡ store.old.boxes }
     ensures only { OnOk result (LeavesNoOldLogs D.history store.old store.new) }
     ensures idle { is_map_due store.old ≡ false → (result ≡ Ok tt) × (store.new ≡ store.old) }

@@ -25,7 +25,7 @@ returns-clause-written g c =
     let draft = c.args.draft in
     let o = before_draft _ v c.args.mailbox.0 draft.generation c.known_counts.ensures.store c.requires.generation in
     let there = subst (λ (n : BoxNo). box_at v.map n.0 ≡ Some o.0.box) (sym c.requires.number) o.0.there in
-    let written = box_written_anew (g.D.Disk.history v.disk) (g.D.Disk.history c.switch_box.new.self.disk) v c.switch_box.new.self c.args.mailbox draft o.0 o.1 c.requires.filled c.requires.number c.requires.means in
+    let written = box_written_anew (g.D.Disk.history v.disk) (g.D.Disk.history c.switch_box.new.self.disk) v c.switch_box.new.self c.args.mailbox draft o.0 o.1 c.requires.filled c.requires.number c.requires.means e.same_log in
     on_ok_three c.switch_box.result (λ log taken gone. log taken (gone o.0.box there)) (on_ok_both c.switch_box.result written e.boxes e.reads) e.taken e.gone
 
 pub returns-clause-only : goal.returns-clause-only

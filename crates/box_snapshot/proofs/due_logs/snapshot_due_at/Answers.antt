@@ -1,6 +1,6 @@
 use Rattle.std.proofs.Common.{sym, ◌∙◌}
 use Rattle.std.proofs.lemmas.Bool.{true≢false}
-use Rattle.box_snapshot.proofs.DueLogsLemmas.{box_written, kept_written, none_due, once_then, shown_at, undue_next, undue_written}
+use Rattle.box_snapshot.proofs.DueLogsLemmas.{box_written, kept_written, none_due, once_then, same_log_itself, shown_at, undue_next, undue_written}
 use Rattle.box_snapshot.proofs.RewritesLemmas.{rewrites_itself}
 use Rattle.box_snapshot.proofs.due_logs.snapshot_due_at.Goals as goal
 
@@ -32,3 +32,9 @@ returns-else-box_due-clause-undue g c = λ before.
 pub returns-in_ok-snapshot_box-clause-once : goal.returns-in_ok-snapshot_box-clause-once
 returns-in_ok-snapshot_box-clause-once g c =
     λ first before. once_then c.in-Some.mailbox.number.0 _ first c.args.store.now c.snapshot_box.new.store (sym c.box_due.ensures ∙ c.if-box_due.true) c.in_ok-snapshot_box.ensures.written before
+
+pub returns-in_ok-snapshot_box-clause-map_log : goal.returns-in_ok-snapshot_box-clause-map_log
+returns-in_ok-snapshot_box-clause-map_log g c = c.in_ok-snapshot_box.ensures.written.map_log
+
+pub returns-else-box_due-clause-map_log : goal.returns-else-box_due-clause-map_log
+returns-else-box_due-clause-map_log g c = same_log_itself c.args.store.now.map_log

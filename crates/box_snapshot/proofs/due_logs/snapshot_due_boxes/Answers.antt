@@ -3,7 +3,7 @@ use Rattle.std.proofs.Common.{◌≡◌, ◌∙◌, ℕ, false, All, length, ref
 use Rattle.model_meaning.specs.MapMeaning.{MapMeaning}
 use Rattle.store_core.specs.Value.{StoreValue}
 use Rattle.box_snapshot.specs.Due.{is_box_due}
-use Rattle.box_snapshot.proofs.DueLogsLemmas.{all_undue, as_many_boxes, as_many_still, kept_then, once_itself, runs_on, unmade_still}
+use Rattle.box_snapshot.proofs.DueLogsLemmas.{all_undue, as_many_boxes, as_many_still, kept_then, once_itself, runs_on, same_log_itself, same_log_then, unmade_still}
 use Rattle.box_snapshot.proofs.RewritesLemmas.{only_itself, only_then, rewrites_itself, rewrites_then}
 use Rattle.box_snapshot.proofs.due_logs.snapshot_due_boxes.Goals as goal
 
@@ -16,6 +16,7 @@ loop-place-init g c = record {
   undue = λ i below. absurd (omega (arith, below));
   kept = λ number undue. refl;
   once = once_itself c.args.store.now;
+  map_log = same_log_itself c.args.store.now.map_log;
   only = only_itself g.D.Disk.history c.args.store.now;
   idle = λ undue. refl;
   faults = refl;
@@ -52,6 +53,7 @@ loop-place-preserved g c =
       undue = did.undue was.undue;
       kept = kept_then c.args.store.now c.loop-place.store c.snapshot_due_at.new.store was.kept did.kept;
       once = did.once c.args.store.now was.once;
+      map_log = same_log_then c.args.store.now.map_log c.loop-place.store.map_log c.snapshot_due_at.new.store.map_log was.map_log did.map_log;
       only = only_then g.D.Disk.history c.args.store.now c.loop-place.store c.snapshot_due_at.new.store was.only did.only;
       idle = λ undue. (did.idle (subst (λ (s : StoreValue _). All (λ b. is_box_due b ≡ false) s.boxes) (sym (was.idle undue)) undue)).1 ∙ was.idle undue;
       faults = did.unfailed (λ stops. absurd (cc stops)) ∙ was.faults;
@@ -79,3 +81,6 @@ returns-clause-once g c = c.loop-place.invariant.once
 
 pub returns-clause-idle : goal.returns-clause-idle
 returns-clause-idle g c = λ undue. (refl, c.loop-place.invariant.idle undue)
+
+pub returns-clause-map_log : goal.returns-clause-map_log
+returns-clause-map_log g c = c.loop-place.invariant.map_log
