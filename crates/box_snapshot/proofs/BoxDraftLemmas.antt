@@ -4,7 +4,7 @@ use Rattle.std.specs.Prelude.{IsErrOf, IsTrue, is_some}
 use Rattle.std.proofs.lemmas.Bool.{eq-eqb}
 use Rattle.std.proofs.lemmas.List.Elements.{All-contains, All-weaker}
 use Rattle.std.proofs.lemmas.Result.{on_ok_weaker}
-use Rattle.disk_model.specs.Disk.{Between, Grows, History, IfTold}
+use Rattle.disk_model.specs.Disk.{Between, Grows, History, IfTold, SameButFor}
 use Rattle.disk_model.specs.Name.{IsLogName}
 use Rattle.disk_model.specs.declared.name.FileName.{FileName}
 use Rattle.disk_model.specs.declared.name.FileName.TheVariants as file
@@ -32,7 +32,7 @@ use Rattle.box_snapshot.specs.Due.{is_due_at}
 use Rattle.box_snapshot.specs.Rewrites.{AreNamesSynced, Rewrites, SyncsMailNames}
 use Rattle.box_snapshot.proofs.BoxFillLemmas.{anew_there, own_named}
 use Rattle.box_snapshot.proofs.DueLemmas.{IsOpenBox, due_box}
-use Rattle.box_snapshot.proofs.RewritesLemmas.{LeavesValue, call_rewrites, mail_named, names_after}
+use Rattle.box_snapshot.proofs.RewritesLemmas.{LeavesValue, call_rewrites, mail_named, named_then, names_after}
 
 -- ---- the next generation
 
@@ -86,6 +86,13 @@ pub drafted_rewrites : {D : Type 0} (history : D → Option History) (old new : 
 drafted_rewrites history old new number generation result same images stays grows stopped memory settled d is others =
     call_rewrites history old new result same images stays grows stopped memory settled (mail_if_drafted (file.Box number.0 generation) (history old.disk) (history new.disk) result refl others)
     (names_if_drafted (history old.disk) (history new.disk) new number generation result d is others)
+
+-- of the disk it alone is more, and what was added to it
+pub spared_box : {D : Type 0} (old now new : Option History) (w : StoreValue D) (number : BoxNo) (generation : ℕ) (box : MapBox) (draft : BoxDraftValue) → IsBoxDraft now draft w → (draft.number ≡ number) × (draft.generation ≡ generation + 1) → generation ≡ box.generation
+    → NamedButFor (file.Box number.0 (generation + 1)) old now → SameButFor draft.log.name now new → NamedButFor (file.Box number.0 (box.generation + 1)) old new
+spared_box old now new w number generation box draft d same is first second =
+    subst (λ (n : ℕ). NamedButFor (file.Box number.0 (n + 1)) old new) is
+    (named_then (file.Box number.0 (generation + 1)) old now new first (subst (λ (n : FileName). SameButFor n now new) (named_so now w number (generation + 1) draft d same) second))
 
 -- it has no entries
 pub box_filled_first : {D : Type 0} (old new : Option History) (w : StoreValue D) (number : BoxNo) (generation : ℕ) (draft : BoxDraftValue) → IsBoxDraft new draft w → draft.index.meaning ≡ box_meaning [] → Drafts draft.log [] new → draft.log.count ≡ 0

@@ -1,11 +1,12 @@
 -- A draft of the map log that is made, and put in the place of the one in force.
-use Rattle.std.proofs.Common.{◌≡◌, ◌↔◌, inr, Bool, true, false, [], Result, Ok, Err, IfOk, OnOk, Option, refl, sym, ◌∙◌, ap, subst}
+use Rattle.std.proofs.Common.{◌≡◌, ◌↔◌, ◌+◌, ℕ, inr, Bool, true, false, [], Result, Ok, Err, IfOk, OnOk, Option, refl, sym, ◌∙◌, ap, subst}
 use Rattle.std.specs.Prelude.{IsErrOf}
 use Rattle.std.proofs.lemmas.Bool.{true≢false}
 use Rattle.std.proofs.lemmas.Result.{on_ok_weaker}
-use Rattle.disk_model.specs.Disk.{Between, Grows, History, IfTold}
+use Rattle.disk_model.specs.Disk.{Between, Grows, History, IfTold, SameButFor}
 use Rattle.disk_model.specs.Name.{IsLogName}
 use Rattle.disk_model.specs.declared.name.FileName.{FileName}
+use Rattle.disk_model.specs.declared.name.FileName.TheVariants as file
 use Rattle.gate_log.specs.Log.{Drafts, NamedButFor}
 use Rattle.model_kept.specs.Kept.{MailIsKept}
 use Rattle.model_lists.specs.Lists.{Lists}
@@ -22,7 +23,7 @@ use Rattle.store_core.specs.declared.error.StepError.TheVariants as step_error
 use Rattle.box_snapshot.specs.MapFilled.{IsMapFilled}
 use Rattle.box_snapshot.specs.Rewrites.{AreNamesSynced, Rewrites, SyncsMailNames}
 use Rattle.box_snapshot.proofs.MapFillLemmas.{draft_is_log, draft_named, same_map}
-use Rattle.box_snapshot.proofs.RewritesLemmas.{LeavesValue, call_rewrites, mail_named, mail_named_three, names_after, safe_always}
+use Rattle.box_snapshot.proofs.RewritesLemmas.{LeavesValue, call_rewrites, mail_named, mail_named_three, named_then, names_after, safe_always}
 
 -- ---- a draft is made
 
@@ -42,6 +43,14 @@ pub made_rewrites : {D : Type 0} (history : D → Option History) (old new : Sto
     → IfOk result (λ draft. IsMapDraft (history new.disk) draft new) → IfOk result (λ draft. NamedButFor draft.log.name (history old.disk) (history new.disk)) → Rewrites history old new
 made_rewrites history old new result same images stays grows stopped memory settled d others =
     call_rewrites history old new result same images stays grows stopped memory settled (mail_if_made (history old.disk) (history new.disk) new result d others) (names_if_made (history old.disk) (history new.disk) new result d others)
+
+-- of the disk it alone is more, and what was added to it
+pub spared_map : {D : Type 0} (old now new : Option History) (v w : StoreValue D) (draft : MapDraftValue) → IsStore old v → IsMapDraft now draft w → ((generation : ℕ) → v.map_log.name ≡ file.Map generation → draft.generation ≡ generation + 1)
+    → NamedButFor draft.log.name old now → SameButFor draft.log.name now new → NamedButFor (file.Map (v.map_log.head.generation + 1)) old new
+spared_map old now new v w draft s d number first second =
+    let head : v.map_log.name ≡ file.Map v.map_log.head.generation = s.map_name ∙ ap (λ (n : ℕ). file.Map n) (sym (ap (λ x. x.generation) s.map_head)) in
+    let own : draft.log.name ≡ file.Map (v.map_log.head.generation + 1) = d.name ∙ ap (λ (n : ℕ). file.Map n) (number v.map_log.head.generation head) in
+    subst (λ (n : FileName). NamedButFor n old new) own (named_then draft.log.name old now new first second)
 
 -- it has no entries
 pub filled_first : {D : Type 0} (old new : Option History) (v w : StoreValue D) (draft : MapDraftValue) → LeavesValue v w → IsMapDraft new draft w → draft.map.meaning ≡ map_meaning v.map.store [] → Drafts draft.log [] new → draft.log.count ≡ 0 → NamedButFor draft.log.name old new → IsMapFilled new [] draft w

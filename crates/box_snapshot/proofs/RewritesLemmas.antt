@@ -92,6 +92,13 @@ names_beside log (Some old) (Some new) others synced own = λ other. elim (cases
   | inr apart ↦ ap (λ (f : FileState). f.is_name_loose) (others other (same_name-apart other log apart)) ∙ synced other
 ]
 
+-- one file has changed with a sync of all names, and then only it
+pub named_then : (name : FileName) (old now new : Option History) → NamedButFor name old now → SameButFor name now new → NamedButFor name old new
+named_then name None now new first second = subst (λ (h : Option History). SameButFor name h new) first second
+named_then name (Some old) None new first second = absurd first
+named_then name (Some old) (Some now) None first second = absurd second
+named_then name (Some old) (Some now) (Some new) first second = λ other apart. second other apart ∙ first other apart
+
 -- ---- images
 
 -- each image of a settled disk is safe

@@ -1,11 +1,12 @@
 // The log of a mailbox is written anew.
-ghost use Rattle.std.specs.Prelude.{◌≡◌, ◌↔◌, ◌<◌, ◌≤◌, ◌+◌, Some, All, IfOk, OnOk, IsErrOf, IsTrue, is_some, drop, length, take, [], false, true};
+ghost use Rattle.std.specs.Prelude.{◌≡◌, ◌⊎◌, ◌↔◌, ◌<◌, ◌≤◌, ◌+◌, Some, All, IfOk, OnOk, IsErrOf, IsTrue, is_some, drop, length, take, [], false, true};
 ghost use Rattle.std.specs.Option.{option_map};
 ghost use Rattle.disk_model.specs.Disk.{Between, SameButFor};
+ghost use Rattle.disk_model.specs.declared.name.FileName.TheVariants as file;
 ghost use Rattle.disk_model.specs.FaultCounts.{NoFault, ChangeFaultCounted};
 ghost use Rattle.gate_log.specs.Log.{NamedButFor};
 ghost use Rattle.model_meaning.specs.BoxMeaning.{BoxMeaning};
-ghost use Rattle.model_meaning.specs.MapMeaning.{box_at};
+ghost use Rattle.model_meaning.specs.MapMeaning.{MapBox, box_at};
 ghost use Rattle.store_core.specs.Drafts.{listed_with};
 ghost use Rattle.store_core.specs.Dues.{due_at, leak_at};
 ghost use Rattle.store_core.specs.Running.{IsStore};
@@ -40,6 +41,8 @@ pub fn snapshot_box<D: Disk>(store: &mut Store<D>, mailbox: BoxNo) -> Result<(),
 
     ensures stopped { IsErrOf result step_error.Stopped ↔ (store.new.stopped ≡ true) }
     ensures memory { IsErrOf result step_error.NoMemory → store.new ≡ record store.old { disk = store.new.disk } }
+    // The disk then is as it was, but that the draft may be left and names may be synced.
+    ensures spared { IsErrOf result step_error.NoMemory → (box : MapBox) → box_at store.old.map mailbox.0 ≡ Some box → (store.new ≡ store.old) ⊎ NamedButFor (file.Box mailbox.0 (box.generation + 1)) (D.history store.old.disk) (D.history store.new.disk) }
     ensures fault { ChangeFaultCounted (IsErrOf result step_error.Stopped) (D.faults store.old.disk) (D.faults store.new.disk) }
     ensures unfailed { (IsErrOf result step_error.Stopped → ⊥) → NoFault (D.faults store.old.disk) (D.faults store.new.disk) }
 {
@@ -78,6 +81,7 @@ fn drafted<D: Disk>(store: &mut Store<D>, mailbox: BoxNo) -> Result<BoxDraft, St
     ensures generation { IfOk result (λ draft. option_map (λ box. box.generation + 1) (box_at store.old.map mailbox.0) ≡ Some draft.generation) }
     ensures means { IfOk result (λ draft. list_numbered store.old mailbox.0 ≡ Some draft.index.meaning) }
     ensures others { IfOk result (λ draft. NamedButFor draft.log.name (D.history store.old.disk) (D.history store.new.disk)) }
+    ensures spared { IsErrOf result step_error.NoMemory → (box : MapBox) → box_at store.old.map mailbox.0 ≡ Some box → (store.new ≡ store.old) ⊎ NamedButFor (file.Box mailbox.0 (box.generation + 1)) (D.history store.old.disk) (D.history store.new.disk) }
     ensures stopped { IsErrOf result step_error.Stopped ↔ (store.new.stopped ≡ true) }
     ensures same { store.new ≡ record store.old { disk = store.new.disk; stopped = store.new.stopped } }
     ensures fault { ChangeFaultCounted (IsErrOf result step_error.Stopped) (D.faults store.old.disk) (D.faults store.new.disk) }
@@ -104,6 +108,7 @@ fn fill<D: Disk>(
     ensures filled { OnOk result (IsBoxFilled (D.history store.new.disk) (entries_anew mailbox.0 store.old) draft.new store.new) }
     ensures others { OnOk result (SameButFor draft.old.log.name (D.history store.old.disk) (D.history store.new.disk)) }
     ensures number { (draft.new.number ≡ draft.old.number) × (draft.new.generation ≡ draft.old.generation) }
+    ensures spared { IsErrOf result step_error.NoMemory → SameButFor draft.old.log.name (D.history store.old.disk) (D.history store.new.disk) }
     ensures stopped { IsErrOf result step_error.Stopped ↔ (store.new.stopped ≡ true) }
     ensures same { store.new ≡ record store.old { disk = store.new.disk; stopped = store.new.stopped } }
     ensures fault { ChangeFaultCounted (IsErrOf result step_error.Stopped) (D.faults store.old.disk) (D.faults store.new.disk) }
@@ -132,6 +137,7 @@ fn add_group<D: Disk>(
     ensures filled { IfOk result (λ to. IsBoxFilled (D.history store.new.disk) (take to (entries_anew mailbox.0 store.old)) draft.new store.new) }
     ensures others { OnOk result (SameButFor draft.old.log.name (D.history store.old.disk) (D.history store.new.disk)) }
     ensures number { (draft.new.number ≡ draft.old.number) × (draft.new.generation ≡ draft.old.generation) }
+    ensures memory { IsErrOf result step_error.NoMemory → store.new ≡ store.old }
     ensures stopped { IsErrOf result step_error.Stopped ↔ (store.new.stopped ≡ true) }
     ensures same { store.new ≡ record store.old { disk = store.new.disk; stopped = store.new.stopped } }
     ensures fault { ChangeFaultCounted (IsErrOf result step_error.Stopped) (D.faults store.old.disk) (D.faults store.new.disk) }

@@ -1,6 +1,7 @@
 // The map log is written anew.
-ghost use Rattle.std.specs.Prelude.{◌≡◌, ◌↔◌, ◌<◌, ◌≤◌, ◌+◌, [], length, take, IfOk, OnOk, IsErrOf, false, true};
+ghost use Rattle.std.specs.Prelude.{◌≡◌, ◌⊎◌, ◌↔◌, ◌<◌, ◌≤◌, ◌+◌, [], length, take, IfOk, OnOk, IsErrOf, false, true};
 ghost use Rattle.disk_model.specs.Disk.{SameButFor};
+ghost use Rattle.disk_model.specs.declared.name.FileName.TheVariants as file;
 ghost use Rattle.disk_model.specs.FaultCounts.{NoFault, ChangeFaultCounted};
 ghost use Rattle.gate_log.specs.Log.{NamedButFor};
 ghost use Rattle.model_rewritten.specs.Rewriting.{IsRewrittenMap, map_snapshot};
@@ -32,6 +33,8 @@ pub fn snapshot_map<D: Disk>(store: &mut Store<D>) -> Result<(), StepError>
 
     ensures stopped { IsErrOf result step_error.Stopped ↔ (store.new.stopped ≡ true) }
     ensures memory { IsErrOf result step_error.NoMemory → store.new ≡ record store.old { disk = store.new.disk } }
+    // The disk then is as it was, but that the draft may be left and names may be synced.
+    ensures spared { IsErrOf result step_error.NoMemory → (store.new ≡ store.old) ⊎ NamedButFor (file.Map (store.old.map_log.head.generation + 1)) (D.history store.old.disk) (D.history store.new.disk) }
     ensures fault { ChangeFaultCounted (IsErrOf result step_error.Stopped) (D.faults store.old.disk) (D.faults store.new.disk) }
     ensures unfailed { (IsErrOf result step_error.Stopped → ⊥) → NoFault (D.faults store.old.disk) (D.faults store.new.disk) }
 {
@@ -49,6 +52,7 @@ fn drafted<D: Disk>(store: &mut Store<D>) -> Result<MapDraft, StepError>
     ensures means { IfOk result (λ draft. draft.map.meaning ≡ store.old.map) }
     ensures generation { IfOk result (λ draft. draft.generation ≡ store.old.map_log.head.generation + 1) }
     ensures others { IfOk result (λ draft. NamedButFor draft.log.name (D.history store.old.disk) (D.history store.new.disk)) }
+    ensures spared { IsErrOf result step_error.NoMemory → (store.new ≡ store.old) ⊎ NamedButFor (file.Map (store.old.map_log.head.generation + 1)) (D.history store.old.disk) (D.history store.new.disk) }
     ensures stopped { IsErrOf result step_error.Stopped ↔ (store.new.stopped ≡ true) }
     ensures same { store.new ≡ record store.old { disk = store.new.disk; stopped = store.new.stopped } }
     ensures fault { ChangeFaultCounted (IsErrOf result step_error.Stopped) (D.faults store.old.disk) (D.faults store.new.disk) }
@@ -69,6 +73,7 @@ fn fill<D: Disk>(store: &mut Store<D>, draft: &mut MapDraft) -> Result<(), StepE
     ensures filled { OnOk result (IsMapFilled (D.history store.new.disk) (map_snapshot store.old.map) draft.new store.new) }
     ensures others { OnOk result (SameButFor draft.old.log.name (D.history store.old.disk) (D.history store.new.disk)) }
     ensures number { draft.new.generation ≡ draft.old.generation }
+    ensures spared { IsErrOf result step_error.NoMemory → SameButFor draft.old.log.name (D.history store.old.disk) (D.history store.new.disk) }
     ensures stopped { IsErrOf result step_error.Stopped ↔ (store.new.stopped ≡ true) }
     ensures same { store.new ≡ record store.old { disk = store.new.disk; stopped = store.new.stopped } }
     ensures fault { ChangeFaultCounted (IsErrOf result step_error.Stopped) (D.faults store.old.disk) (D.faults store.new.disk) }
@@ -96,6 +101,7 @@ fn add_group<D: Disk>(
     ensures filled { IfOk result (λ to. IsMapFilled (D.history store.new.disk) (take to (map_snapshot store.old.map)) draft.new store.new) }
     ensures others { OnOk result (SameButFor draft.old.log.name (D.history store.old.disk) (D.history store.new.disk)) }
     ensures number { draft.new.generation ≡ draft.old.generation }
+    ensures memory { IsErrOf result step_error.NoMemory → store.new ≡ store.old }
     ensures stopped { IsErrOf result step_error.Stopped ↔ (store.new.stopped ≡ true) }
     ensures same { store.new ≡ record store.old { disk = store.new.disk; stopped = store.new.stopped } }
     ensures fault { ChangeFaultCounted (IsErrOf result step_error.Stopped) (D.faults store.old.disk) (D.faults store.new.disk) }

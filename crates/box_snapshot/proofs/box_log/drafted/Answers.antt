@@ -1,5 +1,10 @@
-use Rattle.std.proofs.Common.{◌≡◌, ◌+◌, Some, ap, sym, ◌∙◌, refl, arith, option_map}
-use Rattle.box_snapshot.proofs.BoxDraftLemmas.{box_filled_first, drafted_rewrites, due_in, listed_after, means_anew, newer_then}
+use Rattle.std.specs.Prelude.{IsErrOf}
+use Rattle.std.proofs.Common.{◌≡◌, ◌+◌, inl, inr, Some, ap, sym, ◌∙◌, refl, arith, option_map, rules}
+use Rattle.std.proofs.lemmas.Grind.{common_steps}
+use Rattle.model_meaning.specs.MapMeaning.{MapBox}
+use Rattle.disk_model.specs.Disk.{SameButFor}
+use Rattle.store_core.specs.declared.error.StepError.TheVariants as step_error
+use Rattle.box_snapshot.proofs.BoxDraftLemmas.{box_filled_first, drafted_rewrites, due_in, listed_after, means_anew, newer_then, spared_box}
 use Rattle.box_snapshot.proofs.MapFillLemmas.{runs_if_ok}
 use Rattle.box_snapshot.proofs.RewritesLemmas.{rewrites_then}
 use Rattle.box_snapshot.proofs.box_log.drafted.Goals as goal
@@ -62,3 +67,14 @@ returns-clause-means g c =
     let w = c.draft_box.new.self in
     let due = due_in _ v c.args.mailbox.0 c.facts.ensures.store c.requires.due in
     means_anew v w c.args.mailbox.0 due.0.open_box.index.meaning c.fill.new.draft.index.meaning c.draft_box.ensures.same due.0.meaning (c.known_snapshot.ensures due.0.open_box.index.meaning due.0.meaning) c.in_ok-fill.ensures.filled.means
+
+pub returns-in_err-draft-clause-spared : goal.returns-in_err-draft-clause-spared
+returns-in_err-draft-clause-spared g c =
+    let same : IsErrOf c.from_residual.result step_error.NoMemory → c.draft_box.new.self ≡ c.args.store.now = first_of (search rules, grind (arith, common_steps)) in λ none box there. inl (same none)
+
+pub returns-in_err-fill-clause-spared : goal.returns-in_err-fill-clause-spared
+returns-in_err-fill-clause-spared g c =
+    let spared : IsErrOf c.from_residual-in_err-fill.result step_error.NoMemory → SameButFor c.in_ok-draft.draft.log.name (g.D.Disk.history c.draft_box.new.self.disk) (g.D.Disk.history c.fill.new.store.disk) = first_of (search rules, grind (arith, common_steps)) in λ none box there.
+    let e = c.in_ok-draft.ensures in
+    let is : Some c.unwrap-generation.result ≡ Some box.generation = sym c.unwrap-generation.ensures ∙ c.generation_of.ensures ∙ ap (option_map (λ (b : MapBox). b.generation)) there in
+    inr (spared_box _ _ _ c.draft_box.new.self c.args.mailbox c.unwrap-generation.result box c.in_ok-draft.draft e.draft e.number (cc is) e.others (spared none))

@@ -1,6 +1,10 @@
-use Rattle.std.proofs.Common.{◌≡◌, ◌≤◌, length, take, refl, subst, ◌∙◌, arith, Ok}
+use Rattle.std.specs.Prelude.{IsErrOf}
+use Rattle.std.proofs.Common.{◌≡◌, ◌≤◌, length, take, refl, sym, subst, ◌∙◌, arith, Ok, rules}
+use Rattle.std.proofs.lemmas.Grind.{common_steps}
+use Rattle.disk_model.specs.Disk.{SameButFor}
 use Rattle.model_meaning.specs.MapMeaning.{MapMeaning}
 use Rattle.model_rewritten.specs.Rewriting.{map_snapshot}
+use Rattle.store_core.specs.Value.{StoreValue}
 use Rattle.store_core.specs.declared.error.StepError.TheVariants as step_error
 use Rattle.box_snapshot.specs.MapFilled.{IsMapFilled}
 use Rattle.box_snapshot.proofs.MapFillLemmas.{no_error, others_itself, others_then, runs_if_ok, same_map, value_then}
@@ -43,3 +47,8 @@ loop-from-preserved g c =
       running = runs_if_ok c.add_group.result c.in_ok-from.from w.stopped c.in_ok-from.was c.add_group.ensures.stopped;
       faults = e.unfailed (no_error (Ok c.in_ok-from.from) c.in_ok-from.from step_error.Stopped refl) ∙ i.faults;
     }
+
+pub returns-in_err-from-clause-spared : goal.returns-in_err-from-clause-spared
+returns-in_err-from-clause-spared g c =
+    let same : IsErrOf c.from_residual.result step_error.NoMemory → c.add_group.new.store ≡ c.loop-from.store = first_of (search rules, grind (arith, common_steps)) in λ none.
+    subst (λ (s : StoreValue _). SameButFor c.args.draft.now.log.name (g.D.Disk.history c.args.store.now.disk) (g.D.Disk.history s.disk)) (sym (same none)) c.loop-from.invariant.others
